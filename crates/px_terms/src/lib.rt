@@ -1,0 +1,26 @@
+//! Types, terms, programs, sequents and rows of derivations, as plain data, with the operations on
+//! terms: paths, copies and instances. Contracts see each of them as the tree that it is, so a copy
+//! equals its source. The definitions of the language stand in `specs/`: meaning, typing, clauses,
+//! steps, derivations and their text. Nothing here reads bytes.
+#![tactic(auto)]
+
+mod clause;
+pub mod limits;
+mod memory;
+mod path;
+mod program;
+mod row;
+mod sequent;
+mod term;
+mod text;
+mod types;
+
+pub use clause::{Clause, Equation, EquationList, Sigma};
+pub use memory::NoMemory;
+pub use path::Path;
+pub use program::{ConDef, DataDef, Declared, Def, Lemma, Names, Program, ReplicaDef};
+pub use row::{Kind, Ref, Row, Side, Target};
+pub use sequent::{Context, Frame, Present, Sequent};
+pub use term::{Term, Value};
+pub use text::Text;
+pub use types::{FnType, Fun, Head, Prop, PropSet, Ty};
