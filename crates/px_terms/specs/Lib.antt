@@ -1,2 +1,13 @@
 pub mod Types
 pub mod Terms
+pub mod Programs
+pub mod Values
+pub mod Meaning
+pub mod Typing
+pub mod Clauses
+pub mod Holding
+pub mod Obligations
+pub mod Sequents
+pub mod Steps
+pub mod Derivations
+pub mod Spelling
