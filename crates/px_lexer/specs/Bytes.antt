@@ -1,0 +1,24 @@
+-- Classes of bytes, and what stands between tokens.
+use Rattle.std.specs.Prelude.{◌≡◌, ◌≢◌, ◌<◌, ◌≤◌, ℕ, Bool, ◌||◌, ◌==◌, List, length, slice_index, IsTrue}
+use Rattle.std.specs.Char.{is_ascii_alphanumeric}
+
+-- a letter, a digit or `_`: what a name goes on with
+abbrev pub is_name_part : ℕ → Bool
+is_name_part byte = is_ascii_alphanumeric byte || byte == 95
+
+-- a space, a tab, a line feed or a carriage return
+abbrev pub is_blank : ℕ → Bool
+is_blank byte = byte == 32 || byte == 9 || byte == 10 || byte == 13
+
+-- the byte at this place of the text is a blank
+pub record IsBlankAt (text : List ℕ) (at : ℕ) : Type 0 where
+  pub within : at < length text
+  pub blank : IsTrue (is_blank (slice_index text at))
+
+-- from `at` to `end` stands a comment: a `#` and the rest of its line, up to the line feed or the text's end
+pub record IsComment (text : List ℕ) (at end : ℕ) : Type 0 where
+  pub rises : at < end
+  pub within : end ≤ length text
+  pub begins : slice_index text at ≡ 35
+  pub one_line : (place : ℕ) → at ≤ place → place < end → slice_index text place ≢ 10
+  pub whole : end < length text → slice_index text end ≡ 10

@@ -1,0 +1,10 @@
+//! The tokens of a program's text. `tokens` answers them exactly, or the first place where none begins.
+//! The rules stand in `specs/`: a relation between a text and its tokens, apart from the scanner.
+#![tactic(auto)]
+
+mod scan;
+mod table;
+mod token;
+
+pub use scan::{LexEnd, tokens};
+pub use token::{Key, Mark, Token, TokenKind};
