@@ -5,6 +5,7 @@
 #![tactic(auto)]
 
 mod clause;
+mod copying;
 pub mod limits;
 mod memory;
 mod path;
@@ -16,6 +17,10 @@ mod text;
 mod types;
 
 pub use clause::{Clause, Equation, EquationList, Sigma};
+pub use copying::{
+    copy, copy_equation, copy_equations, copy_fn_type, copy_fun, copy_funs, copy_terms, copy_ty,
+    copy_tys,
+};
 pub use memory::NoMemory;
 pub use path::Path;
 pub use program::{ConDef, DataDef, Declared, Def, Lemma, Names, Program, ReplicaDef};
