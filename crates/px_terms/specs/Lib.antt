@@ -1,2 +1,4 @@
 pub mod Types
 pub mod Terms
+pub mod TreeEdits
+pub mod TreeEquations
