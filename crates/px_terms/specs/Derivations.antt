@@ -19,7 +19,8 @@ use Rattle.px_terms.specs.Types.{tys_instance}
 use Rattle.px_terms.specs.Typing.{live}
 use Rattle.px_terms.specs.Clauses.{numbers_from}
 use Rattle.px_terms.specs.Obligations.{IsObligation}
-use Rattle.px_terms.specs.Sequents.{side_of, own_frame, first_sequent, IsWithinLimits, with_alternative_side, equation_put, frame_put}
+use Rattle.px_terms.specs.Sequents.{side_of, own_frame, first_sequent, IsWithinLimits, with_alternative_side, frame_put}
+use Rattle.px_terms.specs.TreeEdits.{equations_put}
 use Rattle.px_terms.specs.Steps.{Step}
 
 -- constructor k of a datatype on fresh variables
@@ -31,8 +32,8 @@ abbrev pub case_of : Sequent → ℕ → ℕ → List Ty → ℕ → ConDef → 
 case_of s v d args k c = let by = fresh_constructor s d args k c in record {
   context = record { tparams = s.context.tparams; funs = s.context.funs; vars = slice_set s.context.vars v None ++ live (tys_instance args c.fields) };
   frame = frame_put v by s.frame;
-  facts = map (equation_put v by) s.facts;
-  alternatives = map (equation_put v by) s.alternatives;
+  facts = equations_put v by s.facts;
+  alternatives = equations_put v by s.alternatives;
   next = s.next + length c.fields;
 }
 

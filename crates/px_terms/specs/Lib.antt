@@ -1,5 +1,7 @@
 pub mod Types
 pub mod Terms
+pub mod TreeEdits
+pub mod TreeEquations
 pub mod Programs
 pub mod Values
 pub mod Meaning

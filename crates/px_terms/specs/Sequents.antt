@@ -13,17 +13,13 @@ use Rattle.px_terms.specs.declared.row.Side.TheVariants.{Left, Right}
 use Rattle.px_terms.specs.declared.limits.TheConstants.{SEQUENT_NODES, SEQUENT_DEPTH, FACTS, VARIABLES}
 use Rattle.px_terms.specs.Types.{ty_size, ty_depth}
 use Rattle.px_terms.specs.Terms.{term_size, term_depth, term_put}
+use Rattle.px_terms.specs.TreeEdits.{with_side}
 use Rattle.px_terms.specs.Typing.{live}
 
 -- a side of an equation
 abbrev pub side_of : Equation → Side → Term
 side_of e Left = e.left
 side_of e Right = e.right
-
--- the equation with another side
-abbrev pub with_side : Equation → Side → Term → Equation
-with_side e Left t = record e { left = t }
-with_side e Right t = record e { right = t }
 
 -- the frame of some variables, each with itself as present term
 abbrev pub own_frame : (ℕ → Term) → List ℕ → Frame
@@ -59,11 +55,7 @@ pub record IsWithinLimits (s : Sequent) : Type 0 where
 
 -- the sequent with another side of one alternative
 abbrev pub with_alternative_side : Sequent → ℕ → Equation → Side → Term → Sequent
-with_alternative_side s n e side t = record s { alternatives = slice_set s.alternatives n (with_side e side t) }
-
--- a term is put in for a variable on both sides
-abbrev pub equation_put : ℕ → Term → Equation → Equation
-equation_put v by e = record { left = term_put v by e.left; right = term_put v by e.right }
+with_alternative_side s n e side t = record s { alternatives = slice_set s.alternatives n (with_side side e t) }
 
 -- a term is put in for a variable in each present term
 abbrev pub frame_put : ℕ → Term → Frame → Frame

@@ -5,22 +5,33 @@
 #![tactic(auto)]
 
 mod clause;
+mod copying;
 pub mod limits;
 mod memory;
 mod path;
 mod program;
+mod putting;
 mod row;
+mod sameness;
 mod sequent;
+mod sizes;
 mod term;
 mod text;
 mod types;
 
 pub use clause::{Clause, Equation, EquationList, Sigma};
+pub use copying::{
+    copy, copy_equation, copy_equations, copy_fn_type, copy_fun, copy_funs, copy_terms, copy_ty,
+    copy_tys,
+};
 pub use memory::NoMemory;
 pub use path::Path;
 pub use program::{ConDef, DataDef, Declared, Def, Lemma, Names, Program, ReplicaDef};
+pub use putting::{put, put_equations};
 pub use row::{Kind, Ref, Row, Side, Target};
+pub use sameness::{same_fun, same_funs, same_ty, same_tys};
 pub use sequent::{Context, Frame, Present, Sequent};
+pub use sizes::{size, size_of_terms, size_of_ty, size_of_tys};
 pub use term::{Term, Value};
 pub use text::Text;
 pub use types::{FnType, Fun, Head, Prop, PropSet, Ty};
