@@ -6,6 +6,8 @@ use Rattle.px_terms.specs.declared.program.Lemma.{Lemma}
 use Rattle.px_terms.specs.declared.program.Declared.{Declared}
 use Rattle.px_terms.specs.declared.program.Declared.TheVariants as declared
 use Rattle.px_terms.specs.declared.program.Program.{Program}
+use Rattle.px_terms.specs.declared.program.Def as definition
+use Rattle.px_terms.specs.Typing.{HasSignature, HasTypedBody}
 use Rattle.px_terms.specs.Clauses.{IsClause}
 use Rattle.px_terms.specs.Holding.{Holds}
 
@@ -27,3 +29,9 @@ pub record IsObligation (P : Program) (n : ℕ) (clause : Clause) : Type 0 where
 -- every obligation of the program holds
 pub record AllHold (P : Program) : Type 0 where
   pub each : (n : ℕ) (clause : Clause) → IsObligation P n clause → Holds P clause
+
+-- the program is typed: each definition's signature and body, and each declared property fits its definition
+pub record IsTyped (P : Program) : Type 0 where
+  pub signatures : (n : ℕ) (d : definition.Def) → slice_get P.defs n ≡ Some d → HasSignature P d
+  pub bodies : (n : ℕ) (d : definition.Def) → slice_get P.defs n ≡ Some d → HasTypedBody P d
+  pub properties : (n : ℕ) (declared : Declared) → slice_get P.declared n ≡ Some declared → (clause : Clause) × IsDeclaredClause P declared clause
