@@ -6,6 +6,7 @@
 
 mod clause;
 mod copying;
+mod depths;
 pub mod limits;
 mod memory;
 mod path;
@@ -24,12 +25,13 @@ pub use copying::{
     copy, copy_equation, copy_equations, copy_fn_type, copy_fun, copy_funs, copy_terms, copy_ty,
     copy_tys,
 };
+pub use depths::{depth, depth_of_terms, depth_of_ty, depth_of_tys};
 pub use memory::NoMemory;
 pub use path::Path;
 pub use program::{ConDef, DataDef, Declared, Def, Lemma, Names, Program, ReplicaDef};
 pub use putting::{put, put_equations};
 pub use row::{Kind, Ref, Row, Side, Target};
-pub use sameness::{same_fun, same_funs, same_ty, same_tys};
+pub use sameness::{same_fun, same_funs, same_term, same_terms, same_ty, same_tys};
 pub use sequent::{Context, Frame, Present, Sequent};
 pub use sizes::{size, size_of_terms, size_of_ty, size_of_tys};
 pub use term::{Term, Value};
