@@ -7,9 +7,11 @@
 mod clause;
 mod copying;
 mod depths;
+mod instances;
 pub mod limits;
 mod memory;
 mod path;
+mod places;
 mod program;
 mod putting;
 mod row;
@@ -26,8 +28,12 @@ pub use copying::{
     copy_tys,
 };
 pub use depths::{depth, depth_of_terms, depth_of_ty, depth_of_tys};
+pub use instances::{
+    instance, instance_of_fun, instance_of_funs, instance_of_terms, instance_of_ty, instance_of_tys,
+};
 pub use memory::NoMemory;
 pub use path::Path;
+pub use places::{at_path, child, replace_at};
 pub use program::{ConDef, DataDef, Declared, Def, Lemma, Names, Program, ReplicaDef};
 pub use putting::{put, put_equations};
 pub use row::{Kind, Ref, Row, Side, Target};
