@@ -4,6 +4,8 @@
 #![tactic(auto)]
 
 mod replay;
+mod small;
+mod steps;
 mod thin;
 
 pub use replay::{Accepted, ReplayEnd, replay_text};
