@@ -2,3 +2,4 @@ pub mod Types
 pub mod Terms
 pub mod TreeEdits
 pub mod TreeEquations
+pub mod TreeInduction
