@@ -42,22 +42,17 @@ pub fn instance_of_tys(alloc: Global, tys: &[Ty], types: &[Ty]) -> Result<Items<
     Ok(done)
 }
 
-/// The function with these types put in for its type variables. A function variable is replaced by the
-/// function of its number, where there is one. It takes memory, and fails only where there is none.
-pub fn instance_of_fun(
-    alloc: Global,
-    fun: &Fun,
-    types: &[Ty],
-    funs: &[Fun],
-) -> Result<Fun, NoMemory>
-    ensures { IfOk result (λ r. r ≡ fun_instance types.now funs.now fun.now) }
+/// The function with the types of `sigma` put in for its type variables. A function variable is replaced by
+/// the function of its number, where there is one. It takes memory, and fails only where there is none.
+pub fn instance_of_fun(alloc: Global, fun: &Fun, sigma: &Sigma) -> Result<Fun, NoMemory>
+    ensures { IfOk result (λ r. r ≡ fun_instance sigma.now.types sigma.now.funs fun.now) }
 {
     match fun.head {
-        Head::FnVar(number) => match at(funs, number as usize) {
+        Head::FnVar(number) => match at(sigma.funs.as_slice(), number as usize) {
             Some(other) => copy_fun(alloc, other),
-            None => with_types(alloc, fun, types),
+            None => with_types(alloc, fun, sigma.types.as_slice()),
         },
-        Head::Def(_) | Head::Wle | Head::Weq => with_types(alloc, fun, types),
+        Head::Def(_) | Head::Wle | Head::Weq => with_types(alloc, fun, sigma.types.as_slice()),
     }
 }
 
@@ -71,19 +66,14 @@ fn with_types(alloc: Global, fun: &Fun, types: &[Ty]) -> Result<Fun, NoMemory>
     })
 }
 
-/// Each function with these types and functions put in for its variables. It takes memory, and fails only
-/// where there is none.
-pub fn instance_of_funs(
-    alloc: Global,
-    list: &[Fun],
-    types: &[Ty],
-    funs: &[Fun],
-) -> Result<Items<Fun>, NoMemory>
-    ensures { IfOk result (λ r. r ≡ map (fun_instance types.now funs.now) list.now) }
+/// Each function with the types and functions of `sigma` put in for its variables. It takes memory, and fails
+/// only where there is none.
+pub fn instance_of_funs(alloc: Global, funs: &[Fun], sigma: &Sigma) -> Result<Items<Fun>, NoMemory>
+    ensures { IfOk result (λ r. r ≡ map (fun_instance sigma.now.types sigma.now.funs) funs.now) }
 {
     let mut done = Items::new(alloc);
-    for fun in list {
-        done.push(instance_of_fun(alloc, fun, types, funs)?)?;
+    for fun in funs {
+        done.push(instance_of_fun(alloc, fun, sigma)?)?;
     }
     Ok(done)
 }
@@ -114,13 +104,8 @@ pub fn instance(alloc: Global, t: &Term, sigma: &Sigma) -> Result<Term, NoMemory
             fields: instance_of_terms(alloc, fields.as_slice(), sigma)?,
         }),
         Term::Call { fun, funs, args } => Ok(Term::Call {
-            fun: instance_of_fun(alloc, fun, sigma.types.as_slice(), sigma.funs.as_slice())?,
-            funs: instance_of_funs(
-                alloc,
-                funs.as_slice(),
-                sigma.types.as_slice(),
-                sigma.funs.as_slice(),
-            )?,
+            fun: instance_of_fun(alloc, fun, sigma)?,
+            funs: instance_of_funs(alloc, funs.as_slice(), sigma)?,
             args: instance_of_terms(alloc, args.as_slice(), sigma)?,
         }),
         Term::Match {
