@@ -68,3 +68,16 @@ impl Files for HostFiles<'_> {
         }
     }
 }
+
+#[cfg(test)]
+mod tests {
+    use super::*;
+
+    #[test]
+    fn a_missing_file_is_a_fault(rt: HostRuntime) {
+        let mut files = HostFiles::new(&rt);
+        assert_eq!(rt; files.faults, 0);
+        assert_eq!(rt; files.open_text("no/such/file"), Err(Failed));
+        assert_eq!(rt; files.faults, 1);
+    }
+}
