@@ -1,4 +1,5 @@
-ghost use Rattle.std.specs.Prelude.{◌≡◌};
+ghost use Rattle.std.specs.Prelude.{◌≡◌, ◌≤◌};
+ghost use Rattle.px_world.specs.Faults.{next_count};
 ghost use Rattle.px_world.specs.declared.faults.ReadEnd.TheVariants.{NoMemory as NoMemoryEnd};
 
 use px_terms::NoMemory;
@@ -7,6 +8,15 @@ use std::alloc::AllocError;
 /// A call of a device failed. The device has raised its count of faults.
 #[derive(Clone, Copy, Debug, PartialEq, Eq)]
 pub struct Failed;
+
+/// Counts one more fault, up to the last value of the count, and gives the answer for it.
+pub fn fault(count: &mut u64) -> Failed
+    ensures next { count.new ≡ next_count count.old }
+    ensures later { count.old ≤ count.new }
+{
+    *count = count.saturating_add(1);
+    Failed
+}
 
 /// A write failed, so only a front of the bytes was written. The sink has raised its count of faults.
 #[derive(Clone, Copy, Debug, PartialEq, Eq)]

@@ -1,5 +1,7 @@
-use crate::{Bytes, Failed, Files, HostFiles, HostOut, MemoryFiles, MemorySink};
-use crate::{ReadEnd, Sink, WriteFault, read_all, write_all};
+use crate::{
+    Bytes, Failed, Files, HostFiles, HostOut, MemoryFiles, MemorySink, ReadEnd, Sink, WriteFault,
+    read_all, write_all,
+};
 use std::test::Fail;
 
 const TEXT: &[u8] = b"What the ship carries: rope, lamps, two maps.";
