@@ -11,6 +11,3 @@ all_one_more P xs i x within is before here = All-more P xs i x within before (s
 pub all_whole : {X : Type 0} (P : X → Type 0) (xs : List X) (i : ℕ) → length xs ≤ i → All P (take i xs) → All P xs
 all_whole P xs i past all = subst (All P) (take_all i xs past) all
 
--- a test that came out true
-pub is_true : {b : Bool} → b ≡ true → IsTrue b
-is_true e = subst IsTrue (sym e) tt

@@ -3,7 +3,10 @@
 //! read and applied one after the other, and no tree is built. What a derivation is stands in px_terms.
 #![tactic(auto)]
 
+mod cases;
+mod clauses;
 mod replay;
+mod rows;
 mod small;
 mod steps;
 mod thin;
