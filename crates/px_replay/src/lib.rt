@@ -3,6 +3,7 @@
 //! read and applied one after the other, and no tree is built. What a derivation is stands in px_terms.
 #![tactic(auto)]
 
+mod fields;
 mod replay;
 mod thin;
 
