@@ -1,6 +1,13 @@
-ghost use Rattle.std.specs.Prelude.{◌≡◌, ◌≢◌, ◌<◌, ◌+◌, ◌^◌, ℕ, List, ◌∷◌, ◌++◌, IfSome, IfNone, MatchOption};
+ghost use Rattle.std.specs.Prelude.{◌≡◌, ◌≢◌, ◌<◌, ◌+◌, ◌^◌, ℕ, List, ◌∷◌, ◌++◌, IfSome, IfNone, MatchOption, IfOk, codes};
 ghost use Rattle.std.specs.Fmt.{decimal};
-ghost use Rattle.px_replay.specs.Lines.{EndsNumber, HasNoNumber};
+ghost use Rattle.px_terms.specs.Spelling.{side_letter, target_word, path_word, kind_words};
+ghost use Rattle.px_terms.specs.declared.row.Side.{Side as TheSide};
+ghost use Rattle.px_terms.specs.declared.row.Target.{Target as TheTarget};
+ghost use Rattle.px_terms.specs.declared.row.Kind.{Kind as TheKind};
+ghost use Rattle.px_replay.specs.Lines.{EndsNumber, HasNoNumber, EndsPath, child_words, AreSmall, IsReadableTarget, IsReadableKind};
+
+use px_terms::{Kind, Path, Side, Target};
+use std::alloc::{AllocError, Global};
 
 /// The text after a word that it begins with, or nothing where it begins otherwise.
 pub(crate) fn after_word<'a>(text: &'a [u8], word: &[u8]) -> Option<&'a [u8]>
@@ -39,4 +46,99 @@ pub(crate) fn number(text: &[u8]) -> Option<(u32, &[u8])>
         rest = after;
     }
     Some((value, rest))
+}
+
+/// The side that the text begins with, and the text after it.
+fn side(text: &[u8]) -> Option<(Side, &[u8])>
+    ensures read { IfSome result (λ read. text.now ≡ side_letter read.0 ++ read.1.now) }
+    ensures only { (s : TheSide) (rest : List ℕ) → text.now ≡ side_letter s ++ rest → MatchOption result ⊥ (λ read. (read.0 ≡ s) × (read.1.now ≡ rest)) }
+{
+    match text {
+        [b'l', rest @ ..] => Some((Side::Left, rest)),
+        [b'r', rest @ ..] => Some((Side::Right, rest)),
+        _ => None,
+    }
+}
+
+/// The number and the side that the text begins with, and the text after them.
+fn numbered_side(text: &[u8]) -> Option<(u32, Side, &[u8])>
+    ensures read { IfSome result (λ read. text.now ≡ decimal read.0 ++ (side_letter read.1 ++ read.2.now)) }
+    ensures only { (n : ℕ) (s : TheSide) (rest : List ℕ) → n < 2 ^ 32 → text.now ≡ decimal n ++ (side_letter s ++ rest) → MatchOption result ⊥ (λ read. (read.0 ≡ n) × (read.1 ≡ s) × (read.2.now ≡ rest)) }
+{
+    let (number, after) = number(text)?;
+    let (side, rest) = side(after)?;
+    Some((number, side, rest))
+}
+
+/// The alternative or the fact, with its side, that the text begins with, and the text after it.
+pub(crate) fn target(text: &[u8]) -> Option<(Target, &[u8])>
+    ensures read { IfSome result (λ read. text.now ≡ target_word read.0 ++ read.1.now) }
+    ensures only { (t : TheTarget) (rest : List ℕ) → IsReadableTarget t → text.now ≡ target_word t ++ rest → MatchOption result ⊥ (λ read. (read.0 ≡ t) × (read.1.now ≡ rest)) }
+{
+    match text {
+        [b'a', after @ ..] => {
+            let (number, side, rest) = numbered_side(after)?;
+            Some((Target::Alternative { number, side }, rest))
+        }
+        [b'f', after @ ..] => {
+            let (number, side, rest) = numbered_side(after)?;
+            Some((Target::Fact { number, side }, rest))
+        }
+        _ => None,
+    }
+}
+
+/// The child number that the text begins with, after its slash, and the text after it.
+fn child(text: &[u8]) -> Option<(u32, &[u8])>
+    ensures read { IfSome result (λ read. text.now ≡ 47 ∷ (decimal read.0 ++ read.1.now)) }
+    ensures only { (n : ℕ) (rest : List ℕ) → n < 2 ^ 32 → EndsNumber rest → text.now ≡ 47 ∷ (decimal n ++ rest) → MatchOption result ⊥ (λ read. (read.0 ≡ n) × (read.1.now ≡ rest)) }
+{
+    match text {
+        [b'/', after @ ..] => number(after),
+        _ => None,
+    }
+}
+
+/// The child numbers that the text begins with, as many as there are, and the text after them.
+fn children(alloc: Global, text: &[u8]) -> Result<(Path, &[u8]), AllocError>
+    ensures read { IfOk result (λ read. text.now ≡ child_words read.0 ++ read.1.now) }
+    ensures only { (path rest : List ℕ) → AreSmall path → EndsPath rest → text.now ≡ child_words path ++ rest → IfOk result (λ read. (read.0 ≡ path) × (read.1.now ≡ rest)) }
+{
+    let mut path = Path::new(alloc);
+    let mut rest = text;
+    while let Some((number, after)) = child(rest) {
+        path.push(number)?;
+        rest = after;
+    }
+    Ok((path, rest))
+}
+
+/// What a step does that the text begins with, and the text after it.
+pub(crate) fn kind(text: &[u8]) -> Option<(Kind, &[u8])>
+    ensures read { IfSome result (λ read. text.now ≡ kind_words read.0 ++ read.1.now) }
+    ensures only { (k : TheKind) (rest : List ℕ) → IsReadableKind k → text.now ≡ kind_words k ++ rest → MatchOption result ⊥ (λ read. (read.0 ≡ k) × (read.1.now ≡ rest)) }
+{
+    if let Some(rest) = after_word(text, b"unfold") {
+        return Some((Kind::Unfold, rest));
+    }
+    if let Some(rest) = after_word(text, b"select") {
+        return Some((Kind::Select, rest));
+    }
+    if let Some(rest) = after_word(text, b"compare") {
+        return Some((Kind::Compare, rest));
+    }
+    rewriting(after_word(text, b"fact ")?)
+}
+
+/// The fact and the direction of a rewriting step that the text begins with, and the text after them.
+fn rewriting(text: &[u8]) -> Option<(Kind, &[u8])>
+    ensures read { IfSome result (λ read. codes "fact " ++ text.now ≡ kind_words read.0 ++ read.1.now) }
+    ensures only { (k : TheKind) (rest : List ℕ) → IsReadableKind k → codes "fact " ++ text.now ≡ kind_words k ++ rest → MatchOption result ⊥ (λ read. (read.0 ≡ k) × (read.1.now ≡ rest)) }
+{
+    let (number, after) = number(text)?;
+    if let Some(rest) = after_word(after, b" lr") {
+        return Some((Kind::Fact { number, left_to_right: true }, rest));
+    }
+    let rest = after_word(after, b" rl")?;
+    Some((Kind::Fact { number, left_to_right: false }, rest))
 }
