@@ -110,11 +110,15 @@ begins (c ∷ ds) y some digits ended =
     let r : IsInRange 48 57 c = digit_from_value c digits.0 in
     elim ended [ inl low ↦ omega arith | inr high ↦ omega arith ]
 
+-- a number is a digit at least
+pub begins_number : (n : ℕ) (y : List ℕ) → n < 2 ^ 32 → EndsNumber (decimal n ++ y) → ⊥
+begins_number n y small ended =
+    let nn = decimal_is_IsNumeral n (omega arith) in
+    begins (decimal n) y nn.0.0 nn.0.1 ended
+
 -- a text that begins with no digit
 pub no_digit : (text : List ℕ) → EndsNumber text → HasNoNumber text
-no_digit text ended n y small ended_y e =
-    let nn = decimal_is_IsNumeral n (omega arith) in
-    begins (decimal n) y nn.0.0 nn.0.1 (subst EndsNumber e ended)
+no_digit text ended n y small ended_y e = begins_number n y small (subst EndsNumber e ended)
 
 pub if_none : {A P : Type 0} (o : Option A) → P → IfNone o P
 if_none None p = p

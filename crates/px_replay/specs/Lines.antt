@@ -1,6 +1,6 @@
 -- Lines: which rows can be read, and where a field of a line ends.
-use Rattle.std.specs.Prelude.{◌≡◌, ◌≢◌, ℕ, ◌<◌, ◌^◌, List, [], ◌∷◌, ◌++◌, ◌⊎◌, Bool, All, codes}
-use Rattle.std.specs.List.{flat_map}
+use Rattle.std.specs.Prelude.{◌≡◌, ◌≢◌, ℕ, ◌<◌, ◌^◌, List, [], ◌∷◌, ◌++◌, ◌⊎◌, Bool, codes}
+use Rattle.std.specs.List.{flat_map, AllByRecursion}
 use Rattle.std.specs.Fmt.{decimal}
 use Rattle.px_terms.specs.declared.row.Side.{Side}
 use Rattle.px_terms.specs.declared.row.Kind.{Kind}
@@ -30,7 +30,7 @@ child_words path = flat_map (λ (i : ℕ). codes "/" ++ decimal i) path
 
 -- each number is below 2^32
 abbrev pub AreSmall : List ℕ → Type 0
-AreSmall ns = All (λ (n : ℕ). n < 2 ^ 32) ns
+AreSmall ns = AllByRecursion (λ (n : ℕ). n < 2 ^ 32) ns
 
 -- the number of an alternative or a fact is below 2^32
 abbrev pub IsReadableTarget : Target → Type 0

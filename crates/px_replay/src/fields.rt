@@ -1,11 +1,13 @@
-ghost use Rattle.std.specs.Prelude.{◌≡◌, ◌≢◌, ◌<◌, ◌+◌, ◌^◌, ℕ, List, ◌∷◌, ◌++◌, IfSome, IfNone, MatchOption, IfOk, codes};
+ghost use Rattle.std.specs.Prelude.{◌≡◌, ◌≢◌, ◌<◌, ◌+◌, ◌^◌, ℕ, List, ◌∷◌, ◌++◌, IfSome, IfNone, MatchOption, IfOk, MatchResult, codes};
 ghost use Rattle.std.specs.Fmt.{decimal};
 ghost use Rattle.px_terms.specs.Spelling.{side_letter, target_word, path_word, kind_words};
 ghost use Rattle.px_terms.specs.declared.row.Side.{Side as TheSide};
 ghost use Rattle.px_terms.specs.declared.row.Target.{Target as TheTarget};
 ghost use Rattle.px_terms.specs.declared.row.Kind.{Kind as TheKind};
+ghost use Rattle.px_replay.specs.declared.lines.RowEnd.TheVariants.{NoMemory};
 ghost use Rattle.px_replay.specs.Lines.{EndsNumber, HasNoNumber, EndsPath, child_words, AreSmall, IsReadableTarget, IsReadableKind};
 
+use crate::lines::RowEnd;
 use px_terms::{Kind, Path, Side, Target};
 use std::alloc::{AllocError, Global};
 
@@ -32,6 +34,7 @@ fn digit(text: &[u8]) -> Option<(u32, &[u8])>
 /// leading zeros, and is at most 2^32 - 1.
 pub(crate) fn number(text: &[u8]) -> Option<(u32, &[u8])>
     ensures read { IfSome result (λ read. text.now ≡ decimal read.0 ++ read.1.now) }
+    ensures small { IfSome result (λ read. read.0 < 2 ^ 32) }
     ensures ended { IfSome result (λ read. EndsNumber read.1.now) }
     ensures only { (n : ℕ) (rest : List ℕ) → n < 2 ^ 32 → EndsNumber rest → text.now ≡ decimal n ++ rest → IfSome result (λ read. (read.0 ≡ n) × (read.1.now ≡ rest)) }
     ensures refused { IfNone result (HasNoNumber text.now) }
@@ -62,6 +65,7 @@ fn side(text: &[u8]) -> Option<(Side, &[u8])>
 
 /// The number and the side that the text begins with, and the text after them.
 fn numbered_side(text: &[u8]) -> Option<(u32, Side, &[u8])>
+    ensures small { IfSome result (λ read. read.0 < 2 ^ 32) }
     ensures read { IfSome result (λ read. text.now ≡ decimal read.0 ++ (side_letter read.1 ++ read.2.now)) }
     ensures only { (n : ℕ) (s : TheSide) (rest : List ℕ) → n < 2 ^ 32 → text.now ≡ decimal n ++ (side_letter s ++ rest) → MatchOption result ⊥ (λ read. (read.0 ≡ n) × (read.1 ≡ s) × (read.2.now ≡ rest)) }
 {
@@ -72,6 +76,7 @@ fn numbered_side(text: &[u8]) -> Option<(u32, Side, &[u8])>
 
 /// The alternative or the fact, with its side, that the text begins with, and the text after it.
 pub(crate) fn target(text: &[u8]) -> Option<(Target, &[u8])>
+    ensures small { IfSome result (λ read. IsReadableTarget read.0) }
     ensures read { IfSome result (λ read. text.now ≡ target_word read.0 ++ read.1.now) }
     ensures only { (t : TheTarget) (rest : List ℕ) → IsReadableTarget t → text.now ≡ target_word t ++ rest → MatchOption result ⊥ (λ read. (read.0 ≡ t) × (read.1.now ≡ rest)) }
 {
@@ -90,6 +95,7 @@ pub(crate) fn target(text: &[u8]) -> Option<(Target, &[u8])>
 
 /// The child number that the text begins with, after its slash, and the text after it.
 fn child(text: &[u8]) -> Option<(u32, &[u8])>
+    ensures small { IfSome result (λ read. read.0 < 2 ^ 32) }
     ensures read { IfSome result (λ read. text.now ≡ 47 ∷ (decimal read.0 ++ read.1.now)) }
     ensures only { (n : ℕ) (rest : List ℕ) → n < 2 ^ 32 → EndsNumber rest → text.now ≡ 47 ∷ (decimal n ++ rest) → MatchOption result ⊥ (λ read. (read.0 ≡ n) × (read.1.now ≡ rest)) }
 {
@@ -101,6 +107,7 @@ fn child(text: &[u8]) -> Option<(u32, &[u8])>
 
 /// The child numbers that the text begins with, as many as there are, and the text after them.
 fn children(alloc: Global, text: &[u8]) -> Result<(Path, &[u8]), AllocError>
+    ensures small { IfOk result (λ read. AreSmall read.0) }
     ensures read { IfOk result (λ read. text.now ≡ child_words read.0 ++ read.1.now) }
     ensures only { (path rest : List ℕ) → AreSmall path → EndsPath rest → text.now ≡ child_words path ++ rest → IfOk result (λ read. (read.0 ≡ path) × (read.1.now ≡ rest)) }
 {
@@ -113,8 +120,28 @@ fn children(alloc: Global, text: &[u8]) -> Result<(Path, &[u8]), AllocError>
     Ok((path, rest))
 }
 
+/// The path that the text begins with, and the text after it. The whole term is a slash alone.
+pub(crate) fn path(alloc: Global, text: &[u8]) -> Result<(Path, &[u8]), RowEnd>
+    ensures small { IfOk result (λ read. AreSmall read.0) }
+    ensures read { IfOk result (λ read. text.now ≡ path_word read.0 ++ read.1.now) }
+    ensures only { (path rest : List ℕ) → AreSmall path → EndsPath rest → text.now ≡ path_word path ++ rest → MatchResult result (λ read. (read.0 ≡ path) × (read.1.now ≡ rest)) (λ end. end ≡ NoMemory) }
+{
+    let (path, rest) = match children(alloc, text) {
+        Ok(read) => read,
+        Err(_) => return Err(RowEnd::NoMemory),
+    };
+    if !path.as_slice().is_empty() {
+        return Ok((path, rest));
+    }
+    match after_word(rest, b"/") {
+        Some(rest) => Ok((path, rest)),
+        None => Err(RowEnd::NotARow),
+    }
+}
+
 /// What a step does that the text begins with, and the text after it.
 pub(crate) fn kind(text: &[u8]) -> Option<(Kind, &[u8])>
+    ensures small { IfSome result (λ read. IsReadableKind read.0) }
     ensures read { IfSome result (λ read. text.now ≡ kind_words read.0 ++ read.1.now) }
     ensures only { (k : TheKind) (rest : List ℕ) → IsReadableKind k → text.now ≡ kind_words k ++ rest → MatchOption result ⊥ (λ read. (read.0 ≡ k) × (read.1.now ≡ rest)) }
 {
@@ -132,6 +159,7 @@ pub(crate) fn kind(text: &[u8]) -> Option<(Kind, &[u8])>
 
 /// The fact and the direction of a rewriting step that the text begins with, and the text after them.
 fn rewriting(text: &[u8]) -> Option<(Kind, &[u8])>
+    ensures small { IfSome result (λ read. IsReadableKind read.0) }
     ensures read { IfSome result (λ read. codes "fact " ++ text.now ≡ kind_words read.0 ++ read.1.now) }
     ensures only { (k : TheKind) (rest : List ℕ) → IsReadableKind k → codes "fact " ++ text.now ≡ kind_words k ++ rest → MatchOption result ⊥ (λ read. (read.0 ≡ k) × (read.1.now ≡ rest)) }
 {

@@ -4,6 +4,7 @@
 #![tactic(auto)]
 
 mod fields;
+mod lines;
 mod replay;
 mod thin;
 
