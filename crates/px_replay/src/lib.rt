@@ -5,6 +5,8 @@
 
 mod cases;
 mod clauses;
+mod fields;
+mod lines;
 mod replay;
 mod rows;
 mod small;

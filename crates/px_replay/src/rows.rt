@@ -27,14 +27,29 @@ pub(crate) fn open_sequent(
     requires { IsWithinLimits sequent }
     ensures { OnOk result (Opened program.now number sequent row.now stack.old stack.new) }
 {
-    match row {
-        Row::Step { target, path, kind } => {
-            let child = step(alloc, program, number, sequent, *target, path, *kind)?;
-            stack.push(child)?;
-            Ok(())
-        }
-        _ => open_lent(alloc, program, number, &sequent, row, stack),
+    if let Row::Step { target, path, kind } = row {
+        return open_stepped(alloc, program, number, sequent, *target, path, *kind, stack);
     }
+    open_lent(alloc, program, number, &sequent, row, stack)
+}
+
+/// Applies a step, and puts the sequent back.
+fn open_stepped(
+    alloc: Global,
+    program: &Program,
+    number: u32,
+    sequent: Sequent,
+    target: Target,
+    path: &Path,
+    kind: Kind,
+    stack: &mut Items<Sequent>,
+) -> Result<(), ReplayEnd>
+    requires { IsWithinLimits sequent }
+    ensures { OnOk result (Opened program.now number sequent (Row.Step target path.now kind) stack.old stack.new) }
+{
+    let child = step(alloc, program, number, sequent, target, path, kind)?;
+    stack.push(child)?;
+    Ok(())
 }
 
 /// Applies a row that leaves nothing of the sequent, or several children of it.
