@@ -19,6 +19,8 @@ mod sameness;
 mod sequent;
 mod sizes;
 mod term;
+#[cfg(test)]
+mod tests;
 mod text;
 mod types;
 
