@@ -3,6 +3,7 @@
 ghost use Rattle.std.specs.Prelude.{◌≡◌, ◌++◌, IfOk, Some, None, All, List, [], map, slice_set, Option};
 ghost use Rattle.px_terms.specs.declared.types.Ty.{Ty};
 ghost use Rattle.px_terms.specs.declared.program.ConDef.{ConDef};
+ghost use Rattle.px_terms.specs.declared.row.Row.TheVariants.{CaseVar};
 ghost use Rattle.px_terms.specs.Sequents.{IsWithinLimits, frame_put};
 ghost use Rattle.px_terms.specs.Derivations.{Opens, case_of, cases_from};
 ghost use Rattle.px_replay.specs.Replays.{put_case};
@@ -13,7 +14,7 @@ use px_terms::{
     ConDef, Context, Frame, NoMemory, Present, Program, Sequent, Term, Ty, copy_fn_types, copy_ty,
     copy_tys, put, put_equations,
 };
-use sqlite_items::Items;
+use sqlite_items::{Items, at};
 
 use crate::replay::ReplayEnd;
 use crate::small::is_within_limits;
@@ -28,14 +29,14 @@ pub(crate) fn cases(
     sequent: &Sequent,
     variable: u32,
 ) -> Result<Items<Sequent>, ReplayEnd>
-    ensures opens { IfOk result (λ children. Opens program.now number sequent.now (Row.CaseVar variable) children) }
+    ensures opens { IfOk result (λ children. Opens program.now number sequent.now (CaseVar variable) children) }
     ensures small { IfOk result (All IsWithinLimits) }
 {
     let vars = sequent.context.vars.as_slice();
-    let Some(Some(Ty::Con { datatype, args })) = vars.get(variable as usize) else {
+    let Some(Some(Ty::Con { datatype, args })) = at(vars, variable as usize) else {
         return Err(ReplayEnd::Rejected);
     };
-    let Some(declaration) = program.datatypes.as_slice().get(*datatype as usize) else {
+    let Some(declaration) = at(program.datatypes.as_slice(), *datatype as usize) else {
         return Err(ReplayEnd::Rejected);
     };
     let constructors = declaration.cons.as_slice();

@@ -14,7 +14,7 @@ use px_terms::{
     Clause, Context, Declared, Equation, EquationList, Frame, Fun, Head, NoMemory, Program, Prop,
     Sequent, Term, Ty, copy_ty, copy_tys, same_ty,
 };
-use sqlite_items::Items;
+use sqlite_items::{Items, at};
 
 use crate::replay::ReplayEnd;
 
@@ -42,7 +42,7 @@ fn property_clause(
 ) -> Result<Clause, ReplayEnd>
     ensures { IfOk result (IsClause program.now number prop) }
 {
-    let Some(def) = program.defs.as_slice().get(number as usize) else {
+    let Some(def) = at(program.defs.as_slice(), number as usize) else {
         return Err(ReplayEnd::Rejected);
     };
     if def.tparams != 0 || !def.funs.is_empty() {

@@ -8,7 +8,7 @@ ghost use Rattle.px_replay.specs.Replays.{SidesAreOne, StepsSide, Opened};
 use std::alloc::Global;
 
 use px_terms::{Kind, NoMemory, Path, Program, Row, Sequent, Side, Target, Term, same_term};
-use sqlite_items::Items;
+use sqlite_items::{Items, at};
 
 use crate::cases::cases;
 use crate::replay::ReplayEnd;
@@ -83,7 +83,7 @@ fn open_lent(
 fn is_same(sequent: &Sequent, alternative: u32) -> bool
     ensures { IsTrue result → SidesAreOne sequent.now alternative }
 {
-    match sequent.alternatives.as_slice().get(alternative as usize) {
+    match at(sequent.alternatives.as_slice(), alternative as usize) {
         Some(equation) => same_term(&equation.left, &equation.right),
         None => false,
     }
@@ -124,7 +124,7 @@ fn step_side(
 ) -> Result<Term, ReplayEnd>
     ensures { IfOk result (StepsSide program.now sequent.now place side path.now kind) }
 {
-    let Some(equation) = sequent.alternatives.as_slice().get(place as usize) else {
+    let Some(equation) = at(sequent.alternatives.as_slice(), place as usize) else {
         return Err(ReplayEnd::Rejected);
     };
     match side {

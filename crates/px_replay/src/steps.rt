@@ -11,6 +11,7 @@ use px_terms::{
     Head, Kind, Path, Program, Sigma, Term, at_path, copy, copy_funs, copy_terms, copy_tys,
     instance, replace_at,
 };
+use sqlite_items::at;
 
 use crate::replay::ReplayEnd;
 use crate::small::is_small;
@@ -60,7 +61,7 @@ fn unfolded(alloc: Global, program: &Program, part: &Term) -> Result<Term, Repla
     let Head::Def(number) = fun.head else {
         return Err(ReplayEnd::Rejected);
     };
-    let Some(def) = program.defs.as_slice().get(number as usize) else {
+    let Some(def) = at(program.defs.as_slice(), number as usize) else {
         return Err(ReplayEnd::Rejected);
     };
     let sigma = Sigma {
@@ -84,7 +85,7 @@ fn selected(alloc: Global, program: &Program, part: &Term) -> Result<Term, Repla
     if !fields.is_empty() {
         return Err(ReplayEnd::Rejected);
     }
-    let Some(arm) = arms.as_slice().get(*con as usize) else {
+    let Some(arm) = at(arms.as_slice(), *con as usize) else {
         return Err(ReplayEnd::Rejected);
     };
     Ok(copy(alloc, arm)?)
