@@ -3,7 +3,6 @@ ghost use Rattle.px_world.specs.Faults.{next_count};
 ghost use Rattle.px_world.specs.declared.faults.ReadEnd.TheVariants.{NoMemory as NoMemoryEnd};
 
 use px_terms::NoMemory;
-use std::alloc::AllocError;
 
 /// A call of a device failed. The device has raised its count of faults.
 #[derive(Clone, Copy, Debug, PartialEq, Eq)]
@@ -31,14 +30,6 @@ pub enum ReadEnd {
     TooLong,
     /// No memory was left.
     NoMemory,
-}
-
-impl From<AllocError> for ReadEnd {
-    ghost from_gives = { λ _ end. end ≡ NoMemoryEnd };
-
-    fn from(_error: AllocError) -> ReadEnd {
-        ReadEnd::NoMemory
-    }
 }
 
 impl From<NoMemory> for ReadEnd {

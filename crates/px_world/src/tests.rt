@@ -86,6 +86,8 @@ fn the_hosts_files_are_read(rt: HostRuntime) -> Result<(), Fail> {
     let mut files = HostFiles::new(&rt);
     let empty = read_all(rt.alloc(), &mut files, "/dev/null", 0)?;
     assert!(rt; empty.is_empty());
+    let endless = read_all(rt.alloc(), &mut files, "/dev/zero", 10);
+    assert_eq!(rt; endless.err(), Some(ReadEnd::TooLong));
     assert_eq!(rt; files.open_text("no/such/file"), Err(Failed));
     let folder = read_all(rt.alloc(), &mut files, "/", 10);
     assert_eq!(rt; folder.err(), Some(ReadEnd::ReadFault));
