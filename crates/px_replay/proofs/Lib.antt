@@ -1,2 +1,3 @@
-mod Decimals
-mod Paths
+pub mod Decimals
+pub mod Lists
+pub mod Paths

@@ -1,2 +1,4 @@
 pub mod Lines
+pub mod Own
+pub mod Replays
 pub mod Thin

@@ -1,8 +1,8 @@
 ghost use Rattle.std.specs.Prelude.{◌≡◌, IfOk, length};
 ghost use Rattle.px_terms.specs.Spelling.{IsDerivationText};
 
-use px_terms::Program;
-use std::alloc::Global;
+use px_terms::{NoMemory, Program};
+use std::alloc::{AllocError, Global};
 
 /// Why a text was not accepted.
 #[derive(Clone, Copy, Debug, PartialEq, Eq)]
@@ -11,6 +11,18 @@ pub enum ReplayEnd {
     Rejected,
     /// No memory was left.
     NoMemory,
+}
+
+impl From<NoMemory> for ReplayEnd {
+    fn from(_end: NoMemory) -> ReplayEnd {
+        ReplayEnd::NoMemory
+    }
+}
+
+impl From<AllocError> for ReplayEnd {
+    fn from(_error: AllocError) -> ReplayEnd {
+        ReplayEnd::NoMemory
+    }
 }
 
 /// A derivation was accepted, of so many obligations.

@@ -2,6 +2,7 @@ pub mod Types
 pub mod Terms
 pub mod TreeEdits
 pub mod TreeEquations
+pub mod TreeInduction
 pub mod Programs
 pub mod Values
 pub mod Meaning
