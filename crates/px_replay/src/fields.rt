@@ -41,7 +41,8 @@ pub(crate) fn number(text: &[u8]) -> Option<(u32, &[u8])>
 {
     let (first, mut rest) = digit(text)?;
     if first == 0 {
-        return if digit(rest).is_none() { Some((0, rest)) } else { None };
+        let ends = digit(rest).is_none();
+        return if ends { Some((0, rest)) } else { None };
     }
     let mut value = first;
     while let Some((next, after)) = digit(rest) {
@@ -165,8 +166,20 @@ fn rewriting(text: &[u8]) -> Option<(Kind, &[u8])>
 {
     let (number, after) = number(text)?;
     if let Some(rest) = after_word(after, b" lr") {
-        return Some((Kind::Fact { number, left_to_right: true }, rest));
+        return Some((
+            Kind::Fact {
+                number,
+                left_to_right: true,
+            },
+            rest,
+        ));
     }
     let rest = after_word(after, b" rl")?;
-    Some((Kind::Fact { number, left_to_right: false }, rest))
+    Some((
+        Kind::Fact {
+            number,
+            left_to_right: false,
+        },
+        rest,
+    ))
 }

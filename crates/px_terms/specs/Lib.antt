@@ -14,3 +14,4 @@ pub mod Sequents
 pub mod Steps
 pub mod Derivations
 pub mod Spelling
+pub mod Laws

@@ -1,4 +1,4 @@
-use Rattle.std.proofs.Common.{◌≡◌, sym, ap, ◌∙◌, subst, ◌++◌}
+use Rattle.std.proofs.Common.{sym, ap, ◌∙◌, subst, ◌++◌}
 use Rattle.px_replay.specs.Lines.{child_words, AreSmall}
 use Rattle.px_replay.proofs.Paths.{IsLeft, one_child, no_child, child_read, small_more}
 use Rattle.px_replay.proofs.fields.children.Goals as goal

@@ -1,4 +1,4 @@
-use Rattle.std.proofs.Common.{◌≡◌, ◌<◌, ◌+◌, ◌*◌, ◌++◌, ◌∷◌, refl, arith, ◌∙◌, sym, ap}
+use Rattle.std.proofs.Common.{◌≡◌, ◌+◌, ◌*◌, ◌++◌, arith, ◌∙◌, sym, ap, not}
 use Rattle.std.specs.Fmt.{decimal}
 use Rattle.std.proofs.lemmas.Fmt.{decimal_digit}
 use Rattle.px_replay.specs.Lines.{HasNoNumber}
@@ -8,14 +8,14 @@ use Rattle.px_replay.proofs.fields.number.Goals as goal
 pub returns-in_err-first-clause-refused : goal.returns-in_err-first-clause-refused
 returns-in_err-first-clause-refused c = if_none {P = HasNoNumber c.args.text.now} _ (no_digit c.args.text.now c.in_err-first.ensures.refused)
 
-pub returns-then-is_none-clause-read : goal.returns-then-is_none-clause-read
-returns-then-is_none-clause-read c = zero_read _ _ _ c.if-first-eq0.true c.in_ok-first.ensures.read
+pub returns-then-ends-clause-read : goal.returns-then-ends-clause-read
+returns-then-ends-clause-read c = zero_read _ _ _ c.if-first-eq0.true c.in_ok-first.ensures.read
 
-pub returns-then-is_none-clause-only : goal.returns-then-is_none-clause-only
-returns-then-is_none-clause-only c = λ n rest small ended e. zero_only _ _ _ c.if-first-eq0.true c.in_ok-first.ensures.read n rest small e
+pub returns-then-ends-clause-only : goal.returns-then-ends-clause-only
+returns-then-ends-clause-only c = λ n rest small ended e. zero_only _ _ _ c.if-first-eq0.true c.in_ok-first.ensures.read n rest small e
 
-pub returns-else-is_none-clause-refused : goal.returns-else-is_none-clause-refused
-returns-else-is_none-clause-refused c = leading_zero _ _ _ c.digit-then-first-eq0.result c.if-first-eq0.true c.in_ok-first.ensures.read c.if-is_none.ensures c.digit-then-first-eq0.ensures.small c.digit-then-first-eq0.ensures.read
+pub returns-else-ends-clause-refused : goal.returns-else-ends-clause-refused
+returns-else-ends-clause-refused c = leading_zero _ _ _ c.digit-then-first-eq0.result c.if-first-eq0.true c.in_ok-first.ensures.read (c.is_none-ends.ensures ∙ ap not c.if-ends.false) c.digit-then-first-eq0.ensures.small c.digit-then-first-eq0.ensures.read
 
 pub loop-next-init : goal.loop-next-init
 loop-next-init c = record {

@@ -1,4 +1,4 @@
-use Rattle.std.proofs.Common.{◌≡◌, sym, ap, ◌∙◌, length, ◌==◌}
+use Rattle.std.proofs.Common.{sym, ap, ◌∙◌, length, ◌==◌}
 use Rattle.px_replay.proofs.Paths.{AreChildren, some_children, no_children, after_slash}
 use Rattle.px_replay.proofs.fields.path.Goals as goal
 
