@@ -1,9 +1,13 @@
 ghost use Rattle.std.specs.Prelude.{◌≡◌, ◌≤◌, IfOk, length};
 ghost use Rattle.px_replay.specs.Thin.{IsThinSource};
 
-use px_terms::Program;
+mod expression;
+mod front;
+mod name_table;
+
 use px_terms::limits::PROGRAM_BYTES;
-use std::alloc::Global;
+use px_terms::{NoMemory, Program};
+use std::alloc::{AllocError, AllocFailed, Global};
 
 /// Why there is no thin program.
 #[derive(Clone, Copy, Debug, PartialEq, Eq)]
@@ -12,6 +16,24 @@ pub enum ThinEnd {
     NotThin,
     /// No memory was left.
     NoMemory,
+}
+
+impl From<NoMemory> for ThinEnd {
+    fn from(_error: NoMemory) -> ThinEnd {
+        ThinEnd::NoMemory
+    }
+}
+
+impl From<AllocError> for ThinEnd {
+    fn from(_error: AllocError) -> ThinEnd {
+        ThinEnd::NoMemory
+    }
+}
+
+impl<T: Drop> From<AllocFailed<T>> for ThinEnd {
+    fn from(_failed: AllocFailed<T>) -> ThinEnd {
+        ThinEnd::NoMemory
+    }
 }
 
 /// The thin program of a text.

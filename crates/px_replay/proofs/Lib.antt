@@ -1,0 +1,2 @@
+pub mod ThinNames
+pub mod ThinTerms
