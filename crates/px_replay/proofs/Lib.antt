@@ -1,2 +1,4 @@
 pub mod ThinNames
 pub mod ThinTerms
+pub mod ThinLists
+pub mod ThinDefs

@@ -1,2 +1,3 @@
 pub mod Thin
 pub mod ThinFronts
+pub mod ThinDrafts

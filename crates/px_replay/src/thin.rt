@@ -1,9 +1,12 @@
 ghost use Rattle.std.specs.Prelude.{◌≡◌, ◌≤◌, IfOk, length};
 ghost use Rattle.px_replay.specs.Thin.{IsThinSource};
 
+mod definition;
 mod expression;
 mod front;
 mod name_table;
+mod parameters;
+mod properties;
 
 use px_terms::limits::PROGRAM_BYTES;
 use px_terms::{NoMemory, Program};

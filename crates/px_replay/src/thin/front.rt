@@ -1,7 +1,7 @@
 //! What stands at the front of the tokens that are left.
 ghost use Rattle.std.specs.Prelude.{◌≡◌, ◌∷◌, IfOk};
 ghost use Rattle.px_replay.specs.Thin.{text_of, IsKey, IsMark, IsLower, IsUpper};
-ghost use Rattle.px_replay.specs.ThinFronts.{BeginsWith};
+ghost use Rattle.px_replay.specs.ThinFronts.{BeginsWith, BeginsWithBoolType};
 
 use super::ThinEnd;
 use px_lexer::{Key, Mark, Token, TokenKind};
@@ -74,4 +74,19 @@ pub(super) fn upper<'a, 't>(text: &'a [u8], tokens: &'t [Token]) -> Result<(&'a 
     }
     let name = text_of_token(text, &first)?;
     Ok((name, rest))
+}
+
+/// The tokens after `:` and `Bool`. `NotThin` where the first two are others.
+pub(super) fn after_bool_type<'t>(
+    text: &[u8],
+    tokens: &'t [Token],
+) -> Result<&'t [Token], ThinEnd>
+    ensures { IfOk result (λ rest. BeginsWithBoolType text.now tokens.now rest.now) }
+{
+    let rest = after_mark(tokens, Mark::Colon)?;
+    let (name, rest) = upper(text, rest)?;
+    if name != "Bool" {
+        return Err(ThinEnd::NotThin);
+    }
+    Ok(rest)
 }

@@ -1,5 +1,5 @@
 //! Names by number, none of them twice.
-ghost use Rattle.std.specs.Prelude.{◌≡◌, ◌≢◌, [], ◌∷◌, ◌++◌, Contains, slice_get, Some, IfOk, OnOk};
+ghost use Rattle.std.specs.Prelude.{◌≡◌, ◌≢◌, [], ◌∷◌, ◌++◌, Contains, length, slice_get, Some, IfOk, OnOk};
 
 use super::ThinEnd;
 use indexmap::IndexSet;
@@ -28,6 +28,13 @@ impl NameTable {
         NameTable {
             names: IndexSet::new(alloc),
         }
+    }
+
+    /// How many names there are.
+    pub(super) fn len(&self) -> usize
+        ensures { result ≡ length self.now }
+    {
+        self.names.len()
     }
 
     /// Adds a name, with the next number. `NotThin` where it is there already.
