@@ -2,3 +2,4 @@ pub mod ThinNames
 pub mod ThinTerms
 pub mod ThinLists
 pub mod ThinDefs
+pub mod ThinTyped

@@ -2,6 +2,7 @@ ghost use Rattle.std.specs.Prelude.{◌≡◌, ◌≤◌, IfOk, length};
 ghost use Rattle.px_replay.specs.Thin.{IsThinSource};
 
 mod definition;
+mod draft;
 mod expression;
 mod front;
 mod name_table;
