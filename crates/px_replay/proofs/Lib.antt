@@ -3,3 +3,4 @@ pub mod ThinTerms
 pub mod ThinLists
 pub mod ThinDefs
 pub mod ThinTyped
+pub mod ThinPrograms

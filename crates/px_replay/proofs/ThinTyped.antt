@@ -60,7 +60,7 @@ module _ (P : Program) (has_bool : slice_get P.datatypes 0 ≡ Some bool_data) w
       rw (e2, term.outs-Match on 0 [] (a ∷ b ∷ [])) (HasTypeLayer.choose {D = bool_data} (typed_term is_on) refl has_bool (HaveTypesInArms.arm (typed_term is_a) (HaveTypesInArms.arm (typed_term is_b) HaveTypesInArms.no_arm)))
 
 -- two or more parameters end in two of one type
-bools : (names : List (List ℕ)) → map (λ (name : List ℕ). bool_type) names ≡ replicate (length names) bool_type
+pub bools : (names : List (List ℕ)) → map (λ (name : List ℕ). bool_type) names ≡ replicate (length names) bool_type
 bools [] = refl
 bools (x ∷ xs) = ap (λ types. bool_type ∷ types) (bools xs)
 

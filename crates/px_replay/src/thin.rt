@@ -9,6 +9,8 @@ mod name_table;
 mod parameters;
 mod properties;
 
+use draft::{finish, read_defs};
+use px_lexer::{LexEnd, tokens};
 use px_terms::limits::PROGRAM_BYTES;
 use px_terms::{NoMemory, Program};
 use std::alloc::{AllocError, AllocFailed, Global};
@@ -40,12 +42,26 @@ impl<T: Drop> From<AllocFailed<T>> for ThinEnd {
     }
 }
 
-/// The thin program of a text.
+impl From<LexEnd> for ThinEnd {
+    fn from(end: LexEnd) -> ThinEnd {
+        match end {
+            LexEnd::Fault { .. } => ThinEnd::NotThin,
+            LexEnd::NoMemory => ThinEnd::NoMemory,
+        }
+    }
+}
+
+/// The thin program of a text: definitions over `Bool` alone, of which each may claim commutativity and
+/// idempotence. `NotThin` where the text is no thin program: it has a byte that begins no token, it departs from
+/// the grammar, expressions nest deeper than their limit, a variable is no parameter, a name or a property comes
+/// twice, a name is a built-in's, or a definition with a property has too few or too many parameters. It takes
+/// memory; its time is linear in the text.
 pub fn read_thin(alloc: Global, text: &[u8]) -> Result<Program, ThinEnd>
     requires { length text.now ≤ PROGRAM_BYTES }
     ensures { IfOk result (λ program. IsThinSource text.now program) }
 {
-    let _alloc = alloc;
-    let _length = text.len();
-    Err(ThinEnd::NoMemory)
+    let read = tokens(alloc, text)?;
+    let draft = read_defs(alloc, text, read.as_slice())?;
+    let program = finish(alloc, draft)?;
+    Ok(program)
 }
