@@ -11,3 +11,6 @@ mod token;
 pub use laws::{never_both, one_fault, one_list};
 pub use scan::{LexEnd, tokens};
 pub use token::{Key, Mark, Token, TokenKind};
+
+#[cfg(test)]
+mod tests;

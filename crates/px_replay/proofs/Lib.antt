@@ -1,3 +1,4 @@
+<<<<<<< HEAD
 pub mod Decimals
 pub mod Lists
 pub mod Numbers
@@ -5,3 +6,11 @@ pub mod Paths
 pub mod Results
 pub mod RowLemmas
 pub mod StepLemmas
+=======
+pub mod ThinNames
+pub mod ThinTerms
+pub mod ThinLists
+pub mod ThinDefs
+pub mod ThinTyped
+pub mod ThinPrograms
+>>>>>>> d7f9f70330e8b1e7026beb8ac6e1e08350d13cbc

@@ -2,3 +2,5 @@ pub mod Lines
 pub mod Own
 pub mod Replays
 pub mod Thin
+pub mod ThinFronts
+pub mod ThinDrafts
