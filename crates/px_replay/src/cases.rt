@@ -33,7 +33,10 @@ pub(crate) fn cases(
     ensures small { IfOk result (All IsWithinLimits) }
 {
     let vars = sequent.context.vars.as_slice();
-    let Some(Some(Ty::Con { datatype, args })) = at(vars, variable as usize) else {
+    let Some(Some(ty)) = at(vars, variable as usize) else {
+        return Err(ReplayEnd::Rejected);
+    };
+    let Ty::Con { datatype, args } = ty else {
         return Err(ReplayEnd::Rejected);
     };
     let Some(declaration) = at(program.datatypes.as_slice(), *datatype as usize) else {

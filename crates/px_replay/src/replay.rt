@@ -1,6 +1,6 @@
 //! The replay of a text: obligation by obligation, and row by row over a stack of open sequents.
 
-ghost use Rattle.std.specs.Prelude.{◌≡◌, ◌<◌, ◌++◌, ◌∷◌, [], IfOk, Some, length, slice_get};
+ghost use Rattle.std.specs.Prelude.{◌≡◌, ◌++◌, ◌∷◌, ◌↔◌, [], IfOk, IsTrue, Some, length, slice_get};
 ghost use Rattle.px_terms.specs.Sequents.{IsWithinLimits};
 ghost use Rattle.px_terms.specs.Spelling.{IsDerivationText, line_of};
 ghost use Rattle.px_replay.specs.Replays.{HasReplayed, ReplaysRow, ReplaysObligation};
@@ -97,9 +97,19 @@ fn after_header<'a>(alloc: Global, number: u32, text: &'a [u8]) -> Result<&'a [u
     ensures { IfOk result (λ rest. text.now ≡ line_of (Row.Header number []) ++ 10 ∷ rest.now) }
 {
     let read = read_row(alloc, text)?;
-    match read.row {
-        Row::Header { obligation, on } if obligation == number && on.is_empty() => Ok(read.rest),
-        _ => Err(ReplayEnd::Rejected),
+    if !is_header(&read.row, number) {
+        return Err(ReplayEnd::Rejected);
+    }
+    Ok(read.rest)
+}
+
+/// The row is the header of this obligation, without induction.
+fn is_header(row: &Row, number: u32) -> bool
+    ensures { IsTrue result ↔ (row.now ≡ Row.Header number []) }
+{
+    match row {
+        Row::Header { obligation, on } => *obligation == number && on.is_empty(),
+        Row::Same { .. } | Row::Step { .. } | Row::CaseVar { .. } => false,
     }
 }
 
