@@ -17,74 +17,75 @@ fn con(alloc: Global, fields: Items<Term>) -> Term {
     }
 }
 
-/// A list of one item.
-fn one<T: Drop>(alloc: Global, item: T) -> Result<Items<T>, NoMemory> {
+fn one_type(alloc: Global, ty: Ty) -> Result<Items<Ty>, NoMemory> {
     let mut items = Items::new(alloc);
-    items.push(item)?;
+    items.push(ty)?;
     Ok(items)
 }
 
-/// A list of two items.
-fn two<T: Drop>(alloc: Global, first: T, second: T) -> Result<Items<T>, NoMemory> {
+fn one_function(alloc: Global, fun: Fun) -> Result<Items<Fun>, NoMemory> {
     let mut items = Items::new(alloc);
-    items.push(first)?;
+    items.push(fun)?;
+    Ok(items)
+}
+
+fn one_term(alloc: Global, t: Term) -> Result<Items<Term>, NoMemory> {
+    let mut items = Items::new(alloc);
+    items.push(t)?;
+    Ok(items)
+}
+
+fn two_terms(alloc: Global, first: Term, second: Term) -> Result<Items<Term>, NoMemory> {
+    let mut items = one_term(alloc, first)?;
     items.push(second)?;
     Ok(items)
 }
 
-/// A constructor with this term in a million fields.
-fn wide(alloc: Global, field: &Term) -> Result<Term, NoMemory> {
+/// A constructor with this term in each of so many fields.
+fn wide(alloc: Global, field: &Term, count: u32) -> Result<Term, NoMemory> {
     let mut fields = Items::new(alloc);
-    for _ in 0..1_000_000 {
+    for _ in 0..count {
         fields.push(copy(alloc, field)?)?;
     }
     Ok(con(alloc, fields))
 }
 
-/// A nest of a thousand constructors with this term inside.
-fn deep(alloc: Global, inside: Term) -> Result<Term, NoMemory> {
+/// A nest of so many constructors with this term inside.
+fn deep(alloc: Global, inside: Term, count: u32) -> Result<Term, NoMemory> {
     let mut nest = inside;
-    for _ in 0..1_000 {
-        let fields = one(alloc, nest)?;
+    for _ in 0..count {
+        let fields = one_term(alloc, nest)?;
         nest = con(alloc, fields);
     }
     Ok(nest)
 }
 
-/// A type, a function, or a function argument of these parts.
-fn ty_of(alloc: Global, arg: Ty) -> Result<Ty, NoMemory> {
+/// A datatype with this type as its argument.
+fn type_with(alloc: Global, arg: Ty) -> Result<Ty, NoMemory> {
     Ok(Ty::Con {
         datatype: 3,
-        args: one(alloc, arg)?,
+        args: one_type(alloc, arg)?,
     })
 }
 
 fn fun(alloc: Global, head: Head, ty: Ty) -> Result<Fun, NoMemory> {
     Ok(Fun {
         head,
-        types: one(alloc, ty)?,
+        types: one_type(alloc, ty)?,
     })
 }
 
-/// What stands for the first type, function and free variable: a word, a comparison and a literal.
+/// What stands for the first type, function and free variable: a word, a definition and a literal.
 fn first_of_each(alloc: Global) -> Result<Sigma, NoMemory> {
-    Ok(Sigma {
-        types: one(alloc, Ty::Word)?,
-        funs: one(alloc, fun(alloc, Head::Def(9), Ty::Word)?)?,
-        terms: one(alloc, Term::Lit(7))?,
-    })
+    let types = one_type(alloc, Ty::Word)?;
+    let funs = one_function(alloc, fun(alloc, Head::Def(9), Ty::Word)?)?;
+    let terms = one_term(alloc, Term::Lit(7))?;
+    Ok(Sigma { types, funs, terms })
 }
 
-/// A call of this function with one function argument and two arguments.
-fn call(
-    alloc: Global,
-    function: Fun,
-    argument: Fun,
-    left: Term,
-    right: Term,
-) -> Result<Term, NoMemory> {
-    let funs = one(alloc, argument)?;
-    let args = two(alloc, left, right)?;
+/// A call of this function with this function argument and these arguments.
+fn call(alloc: Global, function: Fun, argument: Fun, args: Items<Term>) -> Result<Term, NoMemory> {
+    let funs = one_function(alloc, argument)?;
     Ok(Term::Call {
         fun: function,
         funs,
@@ -92,10 +93,10 @@ fn call(
     })
 }
 
-/// A match on `on` with two arms.
-fn choice(alloc: Global, ty: Ty, on: Term, first: Term, second: Term) -> Result<Term, NoMemory> {
-    let types = one(alloc, ty)?;
-    let arms = two(alloc, first, second)?;
+/// A match with a pattern variable as its first arm and this term as its second.
+fn choice(alloc: Global, ty: Ty, on: Term, arm: Term) -> Result<Term, NoMemory> {
+    let arms = two_terms(alloc, Term::Bound(0), arm)?;
+    let types = one_type(alloc, ty)?;
     Ok(Term::Match {
         on: Boxed::new(alloc, on)?,
         datatype: 0,
@@ -104,23 +105,24 @@ fn choice(alloc: Global, ty: Ty, on: Term, first: Term, second: Term) -> Result<
     })
 }
 
-/// A call whose second argument is a match on a constructor of a literal and a variable.
+/// A match on a constructor of a literal and this term, with a literal as its second arm.
+fn matched(alloc: Global, inner: Term, arm: u64) -> Result<Term, NoMemory> {
+    let on = con(alloc, two_terms(alloc, Term::Lit(1), inner)?);
+    choice(alloc, Ty::Var(0), on, Term::Lit(arm))
+}
+
+/// A call with a function argument, whose arguments are a variable and such a match.
 fn sample(
     alloc: Global,
     head: Head,
     argument: u32,
-    arm: u64,
     inner: Term,
+    arm: u64,
 ) -> Result<Term, NoMemory> {
-    let on = con(alloc, two(alloc, Term::Lit(1), inner)?);
-    let matched = choice(alloc, Ty::Var(0), on, Term::Bound(0), Term::Lit(arm))?;
-    call(
-        alloc,
-        fun(alloc, head, Ty::Word)?,
-        fun(alloc, Head::Def(argument), Ty::Word)?,
-        Term::Free(0),
-        matched,
-    )
+    let args = two_terms(alloc, Term::Free(0), matched(alloc, inner, arm)?)?;
+    let function = fun(alloc, head, Ty::Word)?;
+    let argument = fun(alloc, Head::Def(argument), Ty::Word)?;
+    call(alloc, function, argument, args)
 }
 
 /// The place of these child numbers.
@@ -132,142 +134,209 @@ fn place(alloc: Global, children: &[u32]) -> Result<Path, NoMemory> {
     Ok(path)
 }
 
+/// Whether the copy of the term is the term.
+fn copy_is_same(alloc: Global, t: &Term) -> Result<bool, NoMemory> {
+    let made = copy(alloc, t)?;
+    Ok(same_term(&made, t))
+}
+
+/// Whether the term's instance is that term.
+fn instance_is(alloc: Global, t: &Term, want: &Term) -> Result<bool, NoMemory> {
+    let sigma = first_of_each(alloc)?;
+    let made = instance(alloc, t, &sigma)?;
+    Ok(same_term(&made, want))
+}
+
+/// Whether the term with a literal put in for the first variable is that term.
+fn put_is(alloc: Global, t: &Term, want: &Term) -> Result<bool, NoMemory> {
+    let made = put(alloc, t, 0, &Term::Lit(7))?;
+    Ok(same_term(&made, want))
+}
+
+/// Whether the term has that part at the place.
+fn part_is(alloc: Global, t: &Term, children: &[u32], want: &Term) -> Result<bool, NoMemory> {
+    let path = place(alloc, children)?;
+    match at_path(t, &path) {
+        Some(part) => Ok(same_term(part, want)),
+        None => Ok(false),
+    }
+}
+
+/// Whether the term with a literal at the place is that term.
+fn replaced_is(alloc: Global, t: &Term, children: &[u32], want: &Term) -> Result<bool, NoMemory> {
+    let path = place(alloc, children)?;
+    match replace_at(alloc, t, &path, &Term::Lit(8))? {
+        Some(made) => Ok(same_term(&made, want)),
+        None => Ok(false),
+    }
+}
+
+/// Whether the term has no such place, and nothing is replaced there.
+fn is_absent(alloc: Global, t: &Term, children: &[u32]) -> Result<bool, NoMemory> {
+    let path = place(alloc, children)?;
+    let made = replace_at(alloc, t, &path, &Term::Lit(8))?;
+    Ok(made.is_none() && at_path(t, &path).is_none())
+}
+
 #[test]
 fn takes_a_million_fields(rt: HostRuntime) -> Result<(), Fail> {
     let alloc = rt.alloc();
-    let variables = wide(alloc, &Term::Free(0))?;
-    let literals = wide(alloc, &Term::Lit(7))?;
+    let variables = wide(alloc, &Term::Free(0), 1_000_000)?;
     assert_eq!(rt; size(&variables), 1_000_001);
     assert_eq!(rt; depth(&variables), 2);
-    assert!(rt; same_term(&copy(alloc, &variables)?, &variables));
+    assert!(rt; copy_is_same(alloc, &variables)?);
+    let literals = wide(alloc, &Term::Lit(7), 1_000_000)?;
+    assert!(rt; instance_is(alloc, &variables, &literals)?);
     assert!(rt; !same_term(&variables, &literals));
-    assert!(rt;
-        same_term(
-            &instance(alloc, &variables, &first_of_each(alloc)?)?,
-            &literals
-        )
-    );
-    assert!(rt; same_term(&put(alloc, &variables, 0, &Term::Lit(7))?, &literals));
     Ok(())
 }
 
 #[test]
 fn takes_a_deep_nest(rt: HostRuntime) -> Result<(), Fail> {
     let alloc = rt.alloc();
-    let variable = deep(alloc, Term::Free(0))?;
-    let literal = deep(alloc, Term::Lit(7))?;
+    let variable = deep(alloc, Term::Free(0), 1_000)?;
     assert_eq!(rt; size(&variable), 1_001);
     assert_eq!(rt; depth(&variable), 1_001);
-    assert!(rt; same_term(&copy(alloc, &variable)?, &variable));
-    assert!(rt;
-        same_term(
-            &instance(alloc, &variable, &first_of_each(alloc)?)?,
-            &literal
-        )
-    );
-    assert!(rt; same_term(&put(alloc, &variable, 0, &Term::Lit(7))?, &literal));
+    assert!(rt; copy_is_same(alloc, &variable)?);
+    let literal = deep(alloc, Term::Lit(7), 1_000)?;
+    assert!(rt; instance_is(alloc, &variable, &literal)?);
+    assert!(rt; put_is(alloc, &variable, &literal)?);
     Ok(())
 }
 
 #[test]
 fn finds_and_replaces_parts(rt: HostRuntime) -> Result<(), Fail> {
     let alloc = rt.alloc();
-    let term = sample(alloc, Head::Def(4), 5, 6, Term::Free(2))?;
-    let replaced = sample(alloc, Head::Def(4), 5, 6, Term::Lit(8))?;
-    let inner = place(alloc, &[1, 0, 1])?;
-    assert!(rt; at_path(&term, &inner).is_some_and(|part| same_term(part, &Term::Free(2))));
-    assert!(rt;
-        replace_at(alloc, &term, &inner, &Term::Lit(8))?.is_some_and(|new| same_term(
-            &new, &replaced
-        ))
-    );
-    let whole = place(alloc, &[])?;
-    assert!(rt; at_path(&term, &whole).is_some_and(|part| same_term(part, &term)));
+    let term = sample(alloc, Head::Def(4), 5, Term::Free(2), 6)?;
+    assert!(rt; part_is(alloc, &term, &[1, 0, 1], &Term::Free(2))?);
+    assert!(rt; part_is(alloc, &term, &[], &term)?);
+    let replaced = sample(alloc, Head::Def(4), 5, Term::Lit(8), 6)?;
+    assert!(rt; replaced_is(alloc, &term, &[1, 0, 1], &replaced)?);
     for absent in [[1, 1], [2, 0], [0, 0]] {
-        let path = place(alloc, &absent)?;
-        assert!(rt; at_path(&term, &path).is_none());
-        assert!(rt; replace_at(alloc, &term, &path, &Term::Lit(8))?.is_none());
+        assert!(rt; is_absent(alloc, &term, &absent)?);
     }
     Ok(())
 }
 
+/// A call of a function variable, with its arguments.
+fn general_call(alloc: Global) -> Result<Term, NoMemory> {
+    let args = two_terms(alloc, Term::Free(0), Term::Free(5))?;
+    let function = fun(alloc, Head::FnVar(0), Ty::Var(0))?;
+    let argument = fun(alloc, Head::FnVar(1), Ty::Var(0))?;
+    call(alloc, function, argument, args)
+}
+
+/// Its instance: what has no number in range stays.
+fn special_call(alloc: Global) -> Result<Term, NoMemory> {
+    let args = two_terms(alloc, Term::Lit(7), Term::Free(5))?;
+    let function = fun(alloc, Head::Def(9), Ty::Word)?;
+    let argument = fun(alloc, Head::FnVar(1), Ty::Word)?;
+    call(alloc, function, argument, args)
+}
+
 #[test]
-fn puts_in_types_functions_and_terms(rt: HostRuntime) -> Result<(), Fail> {
+fn puts_in_functions(rt: HostRuntime) -> Result<(), Fail> {
     let alloc = rt.alloc();
-    let sigma = first_of_each(alloc)?;
-    let general = call(
-        alloc,
-        fun(alloc, Head::FnVar(0), Ty::Var(0))?,
-        fun(alloc, Head::FnVar(1), Ty::Var(0))?,
-        Term::Free(0),
-        Term::Free(5),
-    )?;
-    let special = call(
-        alloc,
-        fun(alloc, Head::Def(9), Ty::Word)?,
-        fun(alloc, Head::FnVar(1), Ty::Word)?,
-        Term::Lit(7),
-        Term::Free(5),
-    )?;
-    assert!(rt; same_term(&instance(alloc, &general, &sigma)?, &special));
-    let general = choice(
-        alloc,
-        Ty::Var(0),
-        Term::Free(0),
-        Term::Bound(0),
-        Term::Free(0),
-    )?;
-    let special = choice(alloc, Ty::Word, Term::Lit(7), Term::Bound(0), Term::Lit(7))?;
-    assert!(rt; same_term(&instance(alloc, &general, &sigma)?, &special));
-    let other = choice(
-        alloc,
-        Ty::Var(1),
-        Term::Free(1),
-        Term::Bound(0),
-        Term::Free(1),
-    )?;
-    assert!(rt; same_term(&instance(alloc, &other, &sigma)?, &other));
+    let general = general_call(alloc)?;
+    let special = special_call(alloc)?;
+    assert!(rt; instance_is(alloc, &general, &special)?);
     Ok(())
+}
+
+#[test]
+fn puts_in_types_and_terms(rt: HostRuntime) -> Result<(), Fail> {
+    let alloc = rt.alloc();
+    let general = choice(alloc, Ty::Var(0), Term::Free(0), Term::Free(1))?;
+    let special = choice(alloc, Ty::Word, Term::Lit(7), Term::Free(1))?;
+    assert!(rt; instance_is(alloc, &general, &special)?);
+    assert!(rt; instance_is(alloc, &special, &special)?);
+    assert!(rt; !put_is(alloc, &general, &special)?);
+    Ok(())
+}
+
+/// A call of a comparison with a function argument above two types, and two arguments.
+fn comparison(alloc: Global) -> Result<Term, NoMemory> {
+    let args = two_terms(alloc, Term::Free(0), Term::Lit(1))?;
+    let function = fun(alloc, Head::Wle, Ty::Word)?;
+    let argument = fun(alloc, Head::Weq, type_with(alloc, Ty::Word)?)?;
+    call(alloc, function, argument, args)
 }
 
 #[test]
 fn counts_nodes_and_levels(rt: HostRuntime) -> Result<(), Fail> {
     let alloc = rt.alloc();
-    let small = call(
-        alloc,
-        fun(alloc, Head::Wle, Ty::Word)?,
-        fun(alloc, Head::Weq, ty_of(alloc, Ty::Word)?)?,
-        Term::Free(0),
-        Term::Lit(1),
-    )?;
+    let small = comparison(alloc)?;
     // the call, its type, the function argument above two types, and two arguments
     assert_eq!(rt; size(&small), 7);
     assert_eq!(rt; depth(&small), 4);
-    let term = sample(alloc, Head::Def(4), 5, 6, Term::Free(2))?;
+    let term = sample(alloc, Head::Def(4), 5, Term::Free(2), 6)?;
     // the call, its type, the function argument and its type, the variable, and the match with seven nodes
     assert_eq!(rt; size(&term), 12);
     assert_eq!(rt; depth(&term), 4);
     assert_eq!(rt; size(&Term::Bound(0)), 1);
     assert_eq!(rt; depth(&Term::Bound(0)), 1);
-    let ty = ty_of(alloc, ty_of(alloc, Ty::Var(0))?)?;
+    Ok(())
+}
+
+#[test]
+fn counts_types(rt: HostRuntime) -> Result<(), Fail> {
+    let alloc = rt.alloc();
+    let ty = type_with(alloc, type_with(alloc, Ty::Var(0))?)?;
     assert_eq!(rt; size_of_ty(&ty), 3);
     assert_eq!(rt; depth_of_ty(&ty), 3);
+    assert!(rt; same_ty(&ty, &ty));
     Ok(())
+}
+
+/// Whether the term is this sample.
+fn is_sample(
+    alloc: Global,
+    t: &Term,
+    head: Head,
+    argument: u32,
+    inner: u64,
+    arm: u64,
+) -> Result<bool, NoMemory> {
+    let other = sample(alloc, head, argument, Term::Lit(inner), arm)?;
+    Ok(same_term(t, &other))
 }
 
 #[test]
 fn tells_terms_apart(rt: HostRuntime) -> Result<(), Fail> {
     let alloc = rt.alloc();
-    let term = sample(alloc, Head::Def(4), 5, 6, Term::Lit(2))?;
-    assert!(rt; same_term(&term, &sample(alloc, Head::Def(4), 5, 6, Term::Lit(2))?));
-    assert!(rt; !same_term(&term, &sample(alloc, Head::Def(3), 5, 6, Term::Lit(2))?));
-    assert!(rt; !same_term(&term, &sample(alloc, Head::Def(4), 3, 6, Term::Lit(2))?));
-    assert!(rt; !same_term(&term, &sample(alloc, Head::Def(4), 5, 3, Term::Lit(2))?));
-    assert!(rt; !same_term(&term, &sample(alloc, Head::Def(4), 5, 6, Term::Lit(3))?));
-    let word = choice(alloc, Ty::Word, Term::Free(0), Term::Lit(1), Term::Lit(2))?;
-    let variable = choice(alloc, Ty::Var(0), Term::Free(0), Term::Lit(1), Term::Lit(2))?;
+    let term = sample(alloc, Head::Def(4), 5, Term::Lit(2), 6)?;
+    assert!(rt; is_sample(alloc, &term, Head::Def(4), 5, 2, 6)?);
+    assert!(rt;
+        !is_sample(alloc, &term, Head::Def(3), 5, 2, 6)?,
+        "the head"
+    );
+    assert!(rt;
+        !is_sample(alloc, &term, Head::Def(4), 3, 2, 6)?,
+        "the function argument"
+    );
+    assert!(rt;
+        !is_sample(alloc, &term, Head::Def(4), 5, 3, 6)?,
+        "the literal"
+    );
+    assert!(rt; !is_sample(alloc, &term, Head::Def(4), 5, 2, 3)?, "the arm");
+    Ok(())
+}
+
+#[test]
+fn tells_type_arguments_apart(rt: HostRuntime) -> Result<(), Fail> {
+    let alloc = rt.alloc();
+    let word = choice(alloc, Ty::Word, Term::Free(0), Term::Lit(2))?;
+    let variable = choice(alloc, Ty::Var(0), Term::Free(0), Term::Lit(2))?;
     assert!(rt; !same_term(&word, &variable));
     Ok(())
+}
+
+/// Whether there is one equation, of a variable or literal on the left and a literal on the right.
+fn is_one_equation(equations: &[Equation], left: &Term, right: u64) -> bool {
+    match equations {
+        [e] => same_term(&e.left, left) && same_term(&e.right, &Term::Lit(right)),
+        _ => false,
+    }
 }
 
 #[test]
@@ -280,16 +349,10 @@ fn changes_sides_of_equations(rt: HostRuntime) -> Result<(), Fail> {
     })?;
     let copies = copy_equations(alloc, equations.as_slice())?;
     let mut done = put_equations(alloc, copies.as_slice(), 1, &Term::Lit(3))?;
-    assert!(rt;
-        done.as_slice().iter().all(|e| same_term(&e.left, &Term::Free(0))
-            && same_term(&e.right, &Term::Lit(3)))
-    );
+    assert!(rt; is_one_equation(done.as_slice(), &Term::Free(0), 3));
     assert_eq!(rt; done.as_slice().len(), 1);
     done.set_side(0, Side::Left, Term::Lit(4));
-    assert!(rt;
-        done.as_slice().iter().all(|e| same_term(&e.left, &Term::Lit(4))
-            && same_term(&e.right, &Term::Lit(3)))
-    );
+    assert!(rt; is_one_equation(done.as_slice(), &Term::Lit(4), 3));
     Ok(())
 }
 
@@ -297,8 +360,8 @@ fn changes_sides_of_equations(rt: HostRuntime) -> Result<(), Fail> {
 fn copies_a_parameter_type(rt: HostRuntime) -> Result<(), Fail> {
     let alloc = rt.alloc();
     let signature = FnType {
-        params: one(alloc, Ty::Var(1))?,
-        result: ty_of(alloc, Ty::Word)?,
+        params: one_type(alloc, Ty::Var(1))?,
+        result: Ty::Var(2),
         props: PropSet { has: [false; 11] },
     };
     let other = copy_fn_type(alloc, &signature)?;
