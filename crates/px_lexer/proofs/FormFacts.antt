@@ -1,10 +1,10 @@
 -- What the first byte of a token's text says of its kind.
-use Rattle.std.proofs.Common.{◌≡◌, ◌≢◌, ℕ, zero, suc, ◌<◌, ◌≤◌, ◌-◌, Bool, true, false, List, [], ◌∷◌, length, get_or, take, drop, sym, refl, ap, ◌∙◌, subst, inl, inr, ◌⊎◌, ⊎_elim, arith, length-take, length-drop, get_or-take, get_or-drop, add-zero, ◌+◌}
+use Rattle.std.proofs.Common.{◌≡◌, ℕ, ◌<◌, ◌≤◌, ◌-◌, Bool, true, false, List, [], ◌∷◌, length, get_or, drop, sym, refl, ap, ◌∙◌, subst, inl, inr, ◌⊎◌, arith, length-take, length-drop, get_or-take, get_or-drop, add-zero, ◌+◌}
 use Rattle.std.specs.Prelude.{All, Contains, slice_index, slice_range}
 use Rattle.std.specs.Char.{is_ascii_alphanumeric, is_ascii_digit, is_ascii_lowercase, is_ascii_uppercase}
 use Rattle.std.proofs.lemmas.List.{get_or_default}
 use Rattle.px_lexer.specs.Bytes.{is_name_part}
-use Rattle.px_lexer.specs.Forms.{HasForm, IsDigits, IsName, IsReserved, words, marks}
+use Rattle.px_lexer.specs.Forms.{HasForm, IsDigits, IsReserved, words, marks}
 use Rattle.px_lexer.specs.declared.token.TokenKind.{TokenKind}
 use Rattle.px_lexer.specs.declared.token.TokenKind.TheVariants as kinds
 use Rattle.px_lexer.proofs.ByteFacts.{small_not_capital, small_not_digit, capital_not_digit, small_alphanumeric, capital_alphanumeric, digit_alphanumeric, begins_gap, gap_not_alphanumeric}

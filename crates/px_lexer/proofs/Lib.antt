@@ -3,4 +3,5 @@ mod FormFacts
 mod NumberFacts
 mod Readings
 mod ScanFacts
+mod Spellings
 mod TableFacts

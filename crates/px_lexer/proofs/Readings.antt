@@ -1,8 +1,9 @@
 -- A text is read in one way.
-use Rattle.std.proofs.Common.{◌≡◌, ◌≢◌, ℕ, ◌<◌, ◌≤◌, ◌+◌, ◌-◌, ◌^◌, Bool, true, false, List, [], ◌∷◌, ◌++◌, length, sym, refl, ap, ◌∙◌, subst, inl, inr, ◌⊎◌, ⊎_elim, arith}
-use Rattle.std.specs.Prelude.{slice_index, slice_range}
+use Rattle.std.proofs.Common.{◌≡◌, ℕ, ◌<◌, ◌≤◌, ◌+◌, true, List, [], ◌∷◌, ◌++◌, length, sym, refl, ap, ◌∙◌, subst, inl, inr, ◌⊎◌, ⊎_elim, arith}
+use Rattle.std.specs.Prelude.{All, slice_index, slice_range}
 use Rattle.std.specs.Str.Parse.{digits_value}
 use Rattle.std.proofs.lemmas.Bool.{cases_lt}
+use Rattle.std.proofs.lemmas.List.Elements.{All-cons, All-nil}
 use Rattle.px_lexer.specs.Bytes.{IsBlankAt, IsComment}
 use Rattle.px_lexer.specs.Forms.{HasForm, HasValue, IsLongest, IsTokenOf}
 use Rattle.px_lexer.specs.Tokens.{AreTokens, IsFault, IsOversized, NoneBegins, Reads, SpansRise}
@@ -164,3 +165,11 @@ module _ (text : List ℕ) (to : ℕ) where
   spans_rise {at} {ts} (blank x r) = rise_sooner at (at + 1) to ts (omega arith) (spans_rise r)
   spans_rise {at} {ts} (comment end x r) = rise_sooner at end to ts (omega (arith, x.rises)) (spans_rise r)
   spans_rise {at} (token {t = t} e x r) = (omega arith, x.slice.rises, spans_rise r)
+
+module _ (text : List ℕ) (to : ℕ) where
+  -- each token that is read stands in the text
+  pub all_tokens : {at : ℕ} {ts : List Token} → Reads text to at ts → All (IsTokenOf text) ts
+  all_tokens (none e) = All-nil (IsTokenOf text)
+  all_tokens (blank x r) = all_tokens r
+  all_tokens (comment end x r) = all_tokens r
+  all_tokens (token {t = t} {ts = ts} e x r) = All-cons (IsTokenOf text) t ts x (all_tokens r)

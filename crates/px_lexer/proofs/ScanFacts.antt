@@ -1,13 +1,12 @@
 -- What the parts of the scanner find is what stands in the text.
-use Rattle.std.proofs.Common.{◌≡◌, ◌≢◌, ℕ, ◌<◌, ◌≤◌, ◌+◌, ◌-◌, ◌^◌, Bool, true, false, not, List, [], ◌∷◌, ◌++◌, length, take, drop, sym, refl, ap, ◌∙◌, subst, inl, inr, ◌⊎◌, ⊎_elim, arith, length-drop, length-take, Option, Some, None, Result, Ok, Err}
+use Rattle.std.proofs.Common.{◌≡◌, ℕ, ◌<◌, ◌≤◌, ◌+◌, ◌-◌, true, false, List, [], ◌∷◌, ◌++◌, length, take, drop, sym, refl, ap, ◌∙◌, subst, inl, inr, ◌⊎◌, ⊎_elim, arith, length-drop, length-take, Option, Some, None, Result, Ok, Err}
 use Rattle.std.specs.Prelude.{All, Contains, IfErr, IfNone, IfOk, IfSome, slice_index, slice_range, unwrap_or}
-use Rattle.std.specs.Str.Parse.{digits_value}
 use Rattle.std.specs.Char.{is_ascii_alphanumeric, is_ascii_digit, is_ascii_lowercase, is_ascii_uppercase}
 use Rattle.std.proofs.lemmas.Bool.{cases_lt}
-use Rattle.px_lexer.specs.Bytes.{is_name_part, IsBlankAt, IsComment}
-use Rattle.px_lexer.specs.Forms.{HasForm, HasValue, IsLongest, IsReserved, IsTokenOf, words, marks}
+use Rattle.px_lexer.specs.Bytes.{is_name_part}
+use Rattle.px_lexer.specs.Forms.{HasForm, HasValue, IsLongest, IsTokenOf, words, marks}
 use Rattle.px_lexer.specs.Scan.{is_in, IsGap, IsLongestRow, IsRun, IsWordKind, NoFormAt, NoGapAt, NoRowBegins}
-use Rattle.px_lexer.specs.Tokens.{AreTokens, IsEnd, IsFault, IsOversized, IsUnlessNoMemory, NoneBegins, Reads, SpansRise}
+use Rattle.px_lexer.specs.Tokens.{AreTokens, IsEnd, IsFault, IsOversized, IsUnlessNoMemory, Reads, SpansRise}
 use Rattle.px_lexer.specs.Tokens.Reads.{none, blank, comment, token}
 use Rattle.px_lexer.specs.declared.runs.Class.{Class}
 use Rattle.px_lexer.specs.declared.runs.Class.TheVariants as classes
@@ -19,7 +18,7 @@ use Rattle.px_lexer.specs.declared.token.TokenKind.TheVariants as kinds
 use Rattle.px_lexer.proofs.ByteFacts.{small_alphanumeric, capital_alphanumeric, alphanumeric_name_part}
 use Rattle.px_lexer.proofs.TableFacts.{mark_row, word_row}
 use Rattle.px_lexer.proofs.FormFacts.{All-slice, at_capital, at_digit, at_from_slice, at_other, at_small, form_rises, slice_first, slice_length}
-use Rattle.px_lexer.proofs.Readings.{one_list_law, one_fault_law, never_both_law, reads_append, spans_rise}
+use Rattle.px_lexer.proofs.Readings.{one_list_law, one_fault_law, never_both_law, reads_append, spans_rise, all_tokens}
 
 -- the table's kind of a word, or a name
 pub word_kind_of : (o : Option TokenKind) (word : List ℕ) → IfNone o ((kind : TokenKind) → ¬ Contains words (word, kind)) → IfSome o (λ kind. Contains words (word, kind)) → IsWordKind word (unwrap_or o kinds.Lower)
@@ -163,3 +162,8 @@ module _ (text : List ℕ) where
   pub spans_law : (result : Result (List Token) LexEnd) → IfOk result (AreTokens text) → IfOk result (λ ts. SpansRise 0 ts (length text))
   spans_law (Ok ts) ok = spans_rise text (length text) ok
   spans_law (Err end) ok = tt
+
+  -- each of the tokens stands in the text
+  pub slices_law : (result : Result (List Token) LexEnd) → IfOk result (AreTokens text) → IfOk result (All (IsTokenOf text))
+  slices_law (Ok ts) ok = all_tokens text (length text) ok
+  slices_law (Err end) ok = tt

@@ -5,7 +5,6 @@ use Rattle.std.specs.List.{list_all}
 use Rattle.std.specs.Borrow.{Bor}
 use Rattle.px_lexer.specs.Bytes.{is_name_part, IsBlankAt, IsComment}
 use Rattle.px_lexer.specs.Forms.{HasForm, IsReserved, words}
-use Rattle.px_lexer.specs.Tokens.{IsOversized}
 use Rattle.px_lexer.specs.declared.token.TokenKind.{TokenKind}
 use Rattle.px_lexer.specs.declared.token.TokenKind.TheVariants as kinds
 use Rattle.px_lexer.specs.declared.runs.Class.{Class}

@@ -1,5 +1,5 @@
 -- The tokens of a text, and its fault.
-use Rattle.std.specs.Prelude.{◌≡◌, ◌<◌, ◌≤◌, ◌+◌, ◌^◌, ◌⊎◌, ℕ, List, [], ◌∷◌, length, slice_range, Result, Ok, Err}
+use Rattle.std.specs.Prelude.{◌≡◌, ◌<◌, ◌≤◌, ◌+◌, ◌^◌, ◌⊎◌, ℕ, List, [], ◌∷◌, length, slice_range, Result, Err}
 use Rattle.std.specs.Str.Parse.{digits_value}
 use Rattle.px_lexer.specs.Bytes.{IsBlankAt, IsComment}
 use Rattle.px_lexer.specs.Forms.{HasForm, IsLongest, IsTokenOf}

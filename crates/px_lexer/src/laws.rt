@@ -1,4 +1,4 @@
-ghost use Rattle.px_lexer.specs.Laws.{NeverBoth, OneFault, OneList};
+ghost use Rattle.px_lexer.specs.Laws.{NeverBoth, OneFault, OneList, OneSpelling};
 
 /// A text has at most one list of tokens.
 pub fn one_list()
@@ -13,4 +13,9 @@ pub fn one_fault()
 /// A text with tokens has no fault.
 pub fn never_both()
     ensures { NeverBoth }
+{}
+
+/// Each reserved word, property word and mark has one text in the tables, and no text stands there twice.
+pub fn one_spelling()
+    ensures { OneSpelling }
 {}

@@ -1,4 +1,4 @@
-ghost use Rattle.std.specs.Prelude.{◌≡◌, ◌<◌, ◌≤◌, ◌⊎◌, ℕ, List, [], length, slice_index, Ok, Err, IfOk, IfErr, IfSome, IfNone, IsTrue};
+ghost use Rattle.std.specs.Prelude.{◌≡◌, ◌<◌, ◌≤◌, ◌⊎◌, ℕ, List, [], length, slice_index, Ok, Err, IfOk, IfErr, IfSome, IfNone, IsTrue, All};
 ghost use Rattle.std.specs.Char.{is_ascii_alphanumeric, is_ascii_digit, is_ascii_lowercase, is_ascii_uppercase};
 ghost use Rattle.px_lexer.specs.Bytes.{is_blank};
 ghost use Rattle.px_lexer.specs.Forms.{IsTokenOf};
@@ -179,7 +179,8 @@ pub fn tokens(alloc: Global, text: &[u8]) -> Result<Items<Token>, LexEnd>
     ensures each_list { (ts : List Token) → AreTokens text.now ts → IsUnlessNoMemory (Ok ts) result }
     ensures each_fault { (at : ℕ) → IsFault text.now at → IsUnlessNoMemory (Err (LexEnd.Fault at)) result }
 
-    // The spans rise within the text.
+    // Each token is its slice, and the spans rise within the text.
+    ensures slices { IfOk result (All (IsTokenOf text.now)) }
     ensures spans { IfOk result (λ ts. SpansRise 0 ts (length text.now)) }
 {
     scan(alloc, text)

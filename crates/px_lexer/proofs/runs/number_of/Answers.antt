@@ -1,4 +1,4 @@
-use Rattle.std.proofs.Common.{◌≡◌, ◌<◌, ◌≤◌, ◌+◌, ◌*◌, ◌-◌, ◌^◌, length, get_or, refl, arith}
+use Rattle.std.proofs.Common.{◌<◌, ◌≤◌, ◌+◌, ◌*◌, ◌-◌, ◌^◌, length, get_or, refl, arith}
 use Rattle.px_lexer.proofs.NumberFacts.{front_too_large, value_more}
 use Rattle.px_lexer.proofs.runs.number_of.Goals as goal
 

@@ -1,4 +1,4 @@
-use Rattle.std.proofs.Common.{refl, subst, sym, drop}
+use Rattle.std.proofs.Common.{refl, subst, drop}
 use Rattle.std.proofs.lemmas.List.{take_rest}
 use Rattle.px_lexer.specs.Forms.{marks}
 use Rattle.px_lexer.specs.Scan.{IsLongestRow, NoRowBegins}

@@ -1,4 +1,4 @@
-use Rattle.std.proofs.Common.{◌+◌, ◌<◌, ◌≤◌, ◌++◌, ◌∷◌, [], length, arith, subst, sym}
+use Rattle.std.proofs.Common.{arith, subst, sym}
 use Rattle.px_lexer.specs.Tokens.{Reads}
 use Rattle.px_lexer.proofs.ScanFacts.{fault_at, later_place, token_more}
 use Rattle.px_lexer.proofs.scan.scan.Goals as goal

@@ -1,4 +1,4 @@
-use Rattle.px_lexer.proofs.ScanFacts.{each_list_law, each_fault_law, spans_law}
+use Rattle.px_lexer.proofs.ScanFacts.{each_list_law, each_fault_law, slices_law, spans_law}
 use Rattle.px_lexer.proofs.scan.tokens.Goals as goal
 
 pub returns-clause-each_list : goal.returns-clause-each_list
@@ -9,3 +9,6 @@ returns-clause-each_fault c = each_fault_law c.args.text.now c.scan.result c.sca
 
 pub returns-clause-spans : goal.returns-clause-spans
 returns-clause-spans c = spans_law c.args.text.now c.scan.result c.scan.ensures.ok
+
+pub returns-clause-slices : goal.returns-clause-slices
+returns-clause-slices c = slices_law c.args.text.now c.scan.result c.scan.ensures.ok

@@ -1,5 +1,4 @@
 use Rattle.px_lexer.specs.Forms.{words}
-use Rattle.px_lexer.specs.declared.token.TokenKind.TheVariants.{Lower}
 use Rattle.px_lexer.proofs.ScanFacts.{word_kind_of}
 use Rattle.px_lexer.proofs.table.word_kind.Goals as goal
 
