@@ -15,7 +15,6 @@ use Rattle.px_terms.specs.declared.sequent.Sequent.{Sequent}
 use Rattle.px_terms.specs.declared.row.Side.{Side}
 use Rattle.px_terms.specs.declared.row.Kind.{Kind}
 use Rattle.px_terms.specs.declared.row.Kind.TheVariants as kind
-use Rattle.px_terms.specs.declared.row.Target.{Target}
 use Rattle.px_terms.specs.declared.row.Target.TheVariants as target
 use Rattle.px_terms.specs.declared.row.Row.{Row}
 use Rattle.px_terms.specs.declared.row.Row.TheVariants as row

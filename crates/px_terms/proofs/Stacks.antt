@@ -76,7 +76,6 @@ module _ (P : Program) (n : ℕ) where
     stack_of = λ root d e. leads_all (s ∷ []) (more_nodes root no_node) rows (derived d all_derived) (append-nil (rows_of root) ∙ e);
   }
 
-
   pub stack_is_trees : (stack : List Sequent) (rows : List Row) → StackIsTrees P n stack rows
   stack_is_trees stack rows = record {
     trees_of = λ leads. let t = trees stack rows [] refl leads in (t.nodes, t.derive, t.rows_are);

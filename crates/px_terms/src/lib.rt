@@ -27,8 +27,8 @@ mod types;
 
 pub use clause::{Clause, Equation, EquationList, Sigma};
 pub use copying::{
-    copy, copy_equation, copy_equations, copy_fn_type, copy_fn_types, copy_fun, copy_funs, copy_terms, copy_ty,
-    copy_tys,
+    copy, copy_equation, copy_equations, copy_fn_type, copy_fn_types, copy_fun, copy_funs,
+    copy_terms, copy_ty, copy_tys,
 };
 pub use depths::{depth, depth_of_terms, depth_of_ty, depth_of_tys};
 pub use instances::{
