@@ -1,0 +1,70 @@
+use crate::{Failed, Files};
+use std::fs::File;
+use std::io::Read;
+
+/// The host's files. They tell no bytes, and every name may be opened. A file that is missing is a fault.
+#[derive(Drop)]
+pub struct HostFiles<'a> {
+    rt: &'a HostRuntime,
+    file: Option<File>,
+    faults: u64,
+}
+
+impl HostFiles<'_> {
+    ghost use Rattle.std.specs.Prelude.{◌≡◌, false};
+    ghost use Rattle.px_world.specs.Host.{host_is_open, host_file_faults};
+
+    /// The files of this runtime: none is open, and there are no faults. It takes no memory.
+    pub fn new(rt: &HostRuntime) -> HostFiles<'_>
+        ensures closed { host_is_open result ≡ false }
+        ensures faults { host_file_faults result ≡ 0 }
+    {
+        HostFiles {
+            rt,
+            file: None,
+            faults: 0,
+        }
+    }
+}
+
+impl Files for HostFiles<'_> {
+    ghost use Rattle.std.specs.Prelude.{None, true};
+    ghost use Rattle.px_world.specs.Host.{host_is_open, host_file_faults};
+
+    ghost bytes_of = { λ _ _. None };
+
+    ghost may_open = { λ _ _. true };
+
+    ghost is_open = { host_is_open };
+
+    ghost rest = { λ _. None };
+
+    ghost faults = { host_file_faults };
+
+    fn open_text(&mut self, name: &str) -> Result<(), Failed> {
+        self.file = None;
+        match File::open(self.rt, name) {
+            Ok(file) => {
+                self.file = Some(file);
+                Ok(())
+            }
+            Err(_) => {
+                self.faults = self.faults.saturating_add(1);
+                Err(Failed)
+            }
+        }
+    }
+
+    fn read(&mut self, buf: &mut [u8]) -> Result<usize, Failed> {
+        let Some(file) = &mut self.file else {
+            unreachable!()
+        };
+        match file.read(buf) {
+            Ok(count) => Ok(count),
+            Err(_) => {
+                self.faults = self.faults.saturating_add(1);
+                Err(Failed)
+            }
+        }
+    }
+}
