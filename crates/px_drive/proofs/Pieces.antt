@@ -20,9 +20,11 @@ AppendsPrefix-first old new first rest (n, fits, front) =
 
 -- after the first bytes, a front of the rest is a front of all
 pub AppendsPrefix-rest : (old mid new : Option (List ℕ)) (first rest : List ℕ) → Appends old mid first → AppendsPrefix mid new rest → AppendsPrefix old new (first ++ rest)
-AppendsPrefix-rest old mid new first rest whole (n, fits, front) =
-    (length first + n, omega (arith, length-append first rest),
-     subst (Appends old new) (sym (take-append-add first rest n)) (Appends-trans old mid new first (take n rest) whole front))
+AppendsPrefix-rest old mid new first rest whole (n, fits, front) = (
+  length first + n,
+  omega (arith, length-append first rest),
+  subst (Appends old new) (sym (take-append-add first rest n)) (Appends-trans old mid new first (take n rest) whole front),
+)
 
 -- the pieces up to one, that piece, and the others
 pub bytes_of_all-at : (pieces : List (Bor (List ℕ))) (i : ℕ) (piece : Bor (List ℕ)) → i < length pieces

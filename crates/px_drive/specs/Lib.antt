@@ -3,3 +3,4 @@ pub mod Messages
 pub mod Seen
 pub mod Ends
 pub mod Answers
+pub mod Laws

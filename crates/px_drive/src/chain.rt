@@ -19,10 +19,16 @@ pub fn run_line<F: Files, O: Sink>(
 ) -> End
     requires { All (λ name. IsTrue (F.may_open files.old name)) (files_of line.now) }
     ensures runs { Runs (record {
-        bytes = F.bytes_of files.old; opened = F.is_open files.new; left = F.rest files.new;
-        before = F.faults files.old; after = F.faults files.new
+      bytes = F.bytes_of files.old;
+      opened = F.is_open files.new;
+      left = F.rest files.new;
+      before = F.faults files.old;
+      after = F.faults files.new;
     }) (record {
-        old = O.written out.old; new = O.written out.new; before = O.faults out.old; after = O.faults out.new
+      old = O.written out.old;
+      new = O.written out.new;
+      before = O.faults out.old;
+      after = O.faults out.new;
     }) line.now result }
     ensures texts { F.bytes_of files.new ≡ F.bytes_of files.old }
     ensures names { F.may_open files.new ≡ F.may_open files.old }
@@ -46,10 +52,16 @@ fn replay<F: Files, O: Sink>(
     requires file { IsTrue (F.may_open files.old file.now) }
     requires derivation { IsTrue (F.may_open files.old derivation.now) }
     ensures runs { Runs (record {
-        bytes = F.bytes_of files.old; opened = F.is_open files.new; left = F.rest files.new;
-        before = F.faults files.old; after = F.faults files.new
+      bytes = F.bytes_of files.old;
+      opened = F.is_open files.new;
+      left = F.rest files.new;
+      before = F.faults files.old;
+      after = F.faults files.new;
     }) (record {
-        old = O.written out.old; new = O.written out.new; before = O.faults out.old; after = O.faults out.new
+      old = O.written out.old;
+      new = O.written out.new;
+      before = O.faults out.old;
+      after = O.faults out.new;
     }) (CommandLine.Replay file.now derivation.now) result }
     ensures texts { F.bytes_of files.new ≡ F.bytes_of files.old }
     ensures names { F.may_open files.new ≡ F.may_open files.old }

@@ -36,12 +36,21 @@ pub fn drive<F: Files, O: Sink, E: Sink>(
     requires { ForSome (line_of (map string_bytes words.now.items))
         (λ line. All (λ name. IsTrue (F.may_open files.old name)) (files_of line)) }
     ensures answer { IsAnswer (map string_bytes words.now.items) (record {
-        bytes = F.bytes_of files.old; opened = F.is_open files.new; left = F.rest files.new;
-        before = F.faults files.old; after = F.faults files.new
+      bytes = F.bytes_of files.old;
+      opened = F.is_open files.new;
+      left = F.rest files.new;
+      before = F.faults files.old;
+      after = F.faults files.new;
     }) (record {
-        old = O.written out.old; new = O.written out.new; before = O.faults out.old; after = O.faults out.new
+      old = O.written out.old;
+      new = O.written out.new;
+      before = O.faults out.old;
+      after = O.faults out.new;
     }) (record {
-        old = E.written err.old; new = E.written err.new; before = E.faults err.old; after = E.faults err.new
+      old = E.written err.old;
+      new = E.written err.new;
+      before = E.faults err.old;
+      after = E.faults err.new;
     }) result }
     ensures read_fault { result.end ≡ End.ReadFault → Rose (F.faults files.old) (F.faults files.new) }
     ensures write_fault { result.end ≡ End.WriteFault

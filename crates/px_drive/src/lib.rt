@@ -7,10 +7,13 @@
 
 mod chain;
 mod command;
+pub mod laws;
 mod line;
 mod messages;
 mod outcome;
 mod stages;
+#[cfg(test)]
+mod tests;
 
 pub use command::drive;
 pub use messages::status;

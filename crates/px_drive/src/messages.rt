@@ -50,7 +50,10 @@ fn message(end: End) -> &'static str
 /// memory.
 pub fn report<E: Sink>(end: End, err: &mut E) -> End
     ensures tells { Tells end (record {
-        old = E.written err.old; new = E.written err.new; before = E.faults err.old; after = E.faults err.new
+      old = E.written err.old;
+      new = E.written err.new;
+      before = E.faults err.old;
+      after = E.faults err.new;
     }) result }
     ensures later { E.faults err.old ≤ E.faults err.new }
 {
@@ -73,7 +76,10 @@ pub fn print_accepted<O: Sink>(out: &mut O, obligations: u32) -> Result<(), Writ
     ensures later { O.faults out.old ≤ O.faults out.new }
 {
     let mut digits = Buffer::new();
-    write_pieces(out, &[b"accepted ", digits.format(obligations).as_bytes(), b"\n"])
+    write_pieces(
+        out,
+        &[b"accepted ", digits.format(obligations).as_bytes(), b"\n"],
+    )
 }
 
 /// Writes the pieces one after the other. It takes no memory. `WriteFault` comes only where the sink's

@@ -29,8 +29,11 @@ pub fn read_text<F: Files>(
 ) -> Result<Bytes, End>
     requires { IsTrue (F.may_open files.old name.now) }
     ensures reads { ReadsText text (record {
-        bytes = F.bytes_of files.old; opened = F.is_open files.new; left = F.rest files.new;
-        before = F.faults files.old; after = F.faults files.new
+      bytes = F.bytes_of files.old;
+      opened = F.is_open files.new;
+      left = F.rest files.new;
+      before = F.faults files.old;
+      after = F.faults files.new;
     }) name.now result }
     ensures texts { F.bytes_of files.new ≡ F.bytes_of files.old }
     ensures names { F.may_open files.new ≡ F.may_open files.old }
