@@ -1,5 +1,5 @@
 -- The laws of the table of causes, each by the stages of the chain.
-use Rattle.std.proofs.Common.{◌≡◌, ◌≢◌, ◌<◌, ◌≤◌, ◌⊎◌, ℕ, List, [], ◌++◌, length, Option, None, Some, Result, Ok, Err, inl, inr, refl, sym, ap, subst, arith, length-append, IfSome}
+use Rattle.std.proofs.Common.{◌≡◌, ◌<◌, ◌≤◌, ℕ, List, length, Option, None, Some, inl, inr, refl, ap, subst, arith, length-append}
 use Rattle.std.specs.Io.KnownBytes.{Consumes}
 use Rattle.px_world.specs.Known.{Told, IsLonger}
 use Rattle.px_drive.specs.declared.outcome.CommandLine.{CommandLine}
@@ -11,8 +11,7 @@ use Rattle.px_drive.specs.declared.outcome.SourceFault.TheVariants.{Unbuilt}
 use Rattle.px_drive.specs.Lines.{line_of}
 use Rattle.px_drive.specs.Seen.{FilesSeen, SinkSeen}
 use Rattle.px_drive.specs.Ends.{limit_of, LineEnds}
-use Rattle.px_drive.specs.Answers.{Ends}
-use Rattle.px_drive.specs.Laws.{UsageByWords, DoneOrUsage, IsNamed, EndsAreNamed, IsReplayed, DoneIsReplayed, TooLongIsLonger, LongIsTooLong, LongIsNotReplayed, RefusalsPrintNothing}
+use Rattle.px_drive.specs.Laws.{UsageByWords, DoneOrUsage, EndsAreNamed, DoneIsReplayed, TooLongIsLonger, LongIsTooLong, LongIsNotReplayed, RefusalsPrintNothing}
 
 -- a line doesn't end in Usage
 pub no_usage : (files : FilesSeen) (out : SinkSeen) (line : CommandLine) (printed : List ℕ) → LineEnds files out line Usage printed → ⊥

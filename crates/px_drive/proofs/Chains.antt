@@ -3,7 +3,6 @@ use Rattle.std.proofs.Common.{◌≡◌, ◌≤◌, ℕ, List, Option, Bool, Res
 use Rattle.px_drive.specs.declared.outcome.Which.{Which}
 use Rattle.px_drive.specs.declared.outcome.End.{End}
 use Rattle.px_drive.specs.declared.outcome.End.TheVariants.{Done, Usage, Source, Rejected, ReadFault, WriteFault, NoMemory, TooLong}
-use Rattle.px_drive.specs.Seen.{FilesSeen}
 use Rattle.px_drive.specs.Ends.{ReadsText}
 
 -- a count that rose late in a call rose in the call

@@ -13,7 +13,7 @@ use Rattle.px_drive.specs.declared.outcome.CommandLine.TheVariants.{Replay}
 use Rattle.px_drive.specs.declared.outcome.Which.{Which}
 use Rattle.px_drive.specs.declared.outcome.Which.TheVariants as which
 use Rattle.px_drive.specs.declared.outcome.End.{End}
-use Rattle.px_drive.specs.declared.outcome.End.TheVariants.{Done, Usage, Source, Rejected, ReadFault, WriteFault, NoMemory, TooLong}
+use Rattle.px_drive.specs.declared.outcome.End.TheVariants.{Done, Source, Rejected, ReadFault, WriteFault, NoMemory, TooLong}
 use Rattle.px_drive.specs.declared.outcome.SourceFault.TheVariants.{Unbuilt}
 use Rattle.px_drive.specs.Messages.{accepted_line}
 use Rattle.px_drive.specs.Seen.{FilesSeen, SinkSeen}
