@@ -1,4 +1,5 @@
 pub mod Bytes
 pub mod Forms
 pub mod Laws
+pub mod Scan
 pub mod Tokens

@@ -2,9 +2,15 @@
 //! The rules stand in `specs/`: a relation between a text and its tokens, apart from the scanner.
 #![tactic(auto)]
 
+mod laws;
+mod runs;
 mod scan;
 mod table;
 mod token;
 
+pub use laws::{never_both, one_fault, one_list};
 pub use scan::{LexEnd, tokens};
 pub use token::{Key, Mark, Token, TokenKind};
+
+#[cfg(test)]
+mod tests;

@@ -3,7 +3,14 @@
 //! read and applied one after the other, and no tree is built. What a derivation is stands in px_terms.
 #![tactic(auto)]
 
+mod cases;
+mod clauses;
+mod fields;
+mod lines;
 mod replay;
+mod rows;
+mod small;
+mod steps;
 mod thin;
 
 pub use replay::{Accepted, ReplayEnd, replay_text};

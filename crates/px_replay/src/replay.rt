@@ -1,8 +1,19 @@
-ghost use Rattle.std.specs.Prelude.{◌≡◌, IfOk, length};
-ghost use Rattle.px_terms.specs.Spelling.{IsDerivationText};
+//! The replay of a text: obligation by obligation, and row by row over a stack of open sequents.
 
-use px_terms::Program;
-use std::alloc::Global;
+ghost use Rattle.std.specs.Prelude.{◌≡◌, ◌<◌, ◌++◌, ◌∷◌, [], IfOk, Some, length, slice_get};
+ghost use Rattle.px_terms.specs.Sequents.{IsWithinLimits};
+ghost use Rattle.px_terms.specs.Spelling.{IsDerivationText, line_of};
+ghost use Rattle.px_replay.specs.Replays.{HasReplayed, ReplaysRow, ReplaysObligation};
+
+use std::alloc::{AllocError, Global};
+
+use px_terms::{Declared, NoMemory, Program, Row, Sequent, stack_is_tree};
+use sqlite_items::Items;
+
+use crate::clauses::{clause_of, open_obligation};
+use crate::lines::{RowEnd, read_row};
+use crate::rows::open_sequent;
+use crate::small::is_within_limits;
 
 /// Why a text was not accepted.
 #[derive(Clone, Copy, Debug, PartialEq, Eq)]
@@ -13,19 +24,118 @@ pub enum ReplayEnd {
     NoMemory,
 }
 
+impl From<NoMemory> for ReplayEnd {
+    fn from(_end: NoMemory) -> ReplayEnd {
+        ReplayEnd::NoMemory
+    }
+}
+
+impl From<AllocError> for ReplayEnd {
+    fn from(_error: AllocError) -> ReplayEnd {
+        ReplayEnd::NoMemory
+    }
+}
+
+impl From<RowEnd> for ReplayEnd {
+    fn from(end: RowEnd) -> ReplayEnd {
+        match end {
+            RowEnd::NotARow => ReplayEnd::Rejected,
+            RowEnd::NoMemory => ReplayEnd::NoMemory,
+        }
+    }
+}
+
 /// A derivation was accepted, of so many obligations.
 #[derive(Clone, Copy, Debug, PartialEq, Eq)]
 pub struct Accepted {
     pub obligations: u32,
 }
 
-/// Replays the text of a derivation of the program.
+/// Replays the text of a derivation of the program: a header and the rows of a tree for each obligation, in
+/// order, and nothing more. Rejected where the text is no derivation. It keeps the open sequents of one tree
+/// on a stack, and looks at each byte once.
 pub fn replay_text(alloc: Global, program: &Program, text: &[u8]) -> Result<Accepted, ReplayEnd>
     ensures accepted { IfOk result (λ _. IsDerivationText program.now text.now) }
     ensures count { IfOk result (λ accepted. accepted.obligations ≡ length program.now.declared) }
 {
-    let _alloc = alloc;
-    let _program = program;
-    let _length = text.len();
-    Err(ReplayEnd::NoMemory)
+    let declared = program.declared.as_slice();
+    let Ok(obligations) = u32::try_from(declared.len()) else {
+        return Err(ReplayEnd::Rejected);
+    };
+    let mut rest = text;
+    for number in 0..obligations {
+        rest = replay_obligation(alloc, program, number, declared[number as usize], rest)?;
+    }
+    if !rest.is_empty() {
+        return Err(ReplayEnd::Rejected);
+    }
+    Ok(Accepted { obligations })
+}
+
+/// Replays the header and the tree of an obligation, and answers the text after them.
+fn replay_obligation<'a>(
+    alloc: Global,
+    program: &Program,
+    number: u32,
+    declared: Declared,
+    text: &'a [u8],
+) -> Result<&'a [u8], ReplayEnd>
+    requires { slice_get program.now.declared number ≡ Some declared }
+    ensures { IfOk result (λ rest. ReplaysObligation program.now number text.now rest.now) }
+{
+    let first = open_obligation(alloc, clause_of(alloc, program, declared)?)?;
+    if !is_within_limits(&first) {
+        return Err(ReplayEnd::Rejected);
+    }
+    let rows = after_header(alloc, number, text)?;
+    stack_is_tree();
+    replay_tree(alloc, program, number, first, rows)
+}
+
+/// The text after the header of an obligation, without induction.
+fn after_header<'a>(alloc: Global, number: u32, text: &'a [u8]) -> Result<&'a [u8], ReplayEnd>
+    ensures { IfOk result (λ rest. text.now ≡ line_of (Row.Header number []) ++ 10 ∷ rest.now) }
+{
+    let read = read_row(alloc, text)?;
+    match read.row {
+        Row::Header { obligation, on } if obligation == number && on.is_empty() => Ok(read.rest),
+        _ => Err(ReplayEnd::Rejected),
+    }
+}
+
+/// Replays rows until nothing is open any more, and answers the text after them.
+fn replay_tree<'a>(
+    alloc: Global,
+    program: &Program,
+    number: u32,
+    first: Sequent,
+    text: &'a [u8],
+) -> Result<&'a [u8], ReplayEnd>
+    requires { IsWithinLimits first }
+    ensures { IfOk result (λ rest. HasReplayed program.now number first [] text.now rest.now) }
+{
+    let mut stack = Items::new(alloc);
+    stack.push(first)?;
+    let mut rest = text;
+    while let Some(sequent) = stack.pop() {
+        rest = replay_row(alloc, program, number, sequent, rest, &mut stack)?;
+    }
+    Ok(rest)
+}
+
+/// Replays one row at the sequent that was the top of the stack, and answers the text after it.
+fn replay_row<'a>(
+    alloc: Global,
+    program: &Program,
+    number: u32,
+    sequent: Sequent,
+    text: &'a [u8],
+    stack: &mut Items<Sequent>,
+) -> Result<&'a [u8], ReplayEnd>
+    requires { IsWithinLimits sequent }
+    ensures { IfOk result (λ rest. ReplaysRow program.now number sequent stack.old stack.new text.now rest.now) }
+{
+    let read = read_row(alloc, text)?;
+    open_sequent(alloc, program, number, sequent, &read.row, stack)?;
+    Ok(read.rest)
 }

@@ -2,6 +2,7 @@ pub mod Types
 pub mod Terms
 pub mod TreeEdits
 pub mod TreeEquations
+pub mod TreeInduction
 pub mod Programs
 pub mod Values
 pub mod Meaning
@@ -13,3 +14,4 @@ pub mod Sequents
 pub mod Steps
 pub mod Derivations
 pub mod Spelling
+pub mod Laws

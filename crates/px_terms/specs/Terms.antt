@@ -1,8 +1,6 @@
 -- Terms as trees: sizes, depths, children, paths, and what is put in for variables.
-use Rattle.std.specs.Prelude.{ℕ, zero, ◌+◌, max, ◌==◌, List, [], ◌∷◌, map, sum, unwrap_or, slice_get, slice_set, Option, Some, None, if◌then◌else◌, option_and_then}
+use Rattle.std.specs.Prelude.{ℕ, ◌+◌, max, ◌==◌, List, [], ◌∷◌, map, sum, unwrap_or, slice_get, slice_set, Option, Some, if◌then◌else◌, option_and_then}
 use Rattle.std.specs.Option.{option_map}
-use Rattle.px_terms.specs.declared.types.Ty.{Ty}
-use Rattle.px_terms.specs.declared.types.Fun.{Fun}
 use Rattle.px_terms.specs.declared.term.Term.{Term, out-Term}
 use Rattle.px_terms.specs.declared.term.Term.TheVariants.{Free, Bound, Lit, Con, Call, Match}
 use Rattle.px_terms.specs.declared.term.Term.TheOpen.{Term-F}

@@ -1,5 +1,6 @@
-ghost use Rattle.std.specs.Prelude.{◌≡◌, ◌<◌, [], ◌∷◌, ◌++◌, length, slice_get, OnOk, OnErr, IfSome};
+ghost use Rattle.std.specs.Prelude.{◌≡◌, ◌<◌, [], ◌∷◌, ◌++◌, length, slice_get, slice_set, OnOk, OnErr, IfSome};
 
+use crate::row::Side;
 use crate::term::Term;
 use crate::types::{FnType, Fun, Ty};
 use sqlite_items::Items;
@@ -33,6 +34,8 @@ impl Model for EquationList {
 }
 
 impl EquationList {
+    ghost use Rattle.px_terms.specs.TreeEdits.{with_side};
+
     /// No equations.
     pub fn new(alloc: Global) -> EquationList
         ensures { result ≡ [] }
@@ -56,6 +59,18 @@ impl EquationList {
         ensures { result.now ≡ self.now }
     {
         self.items.as_slice()
+    }
+
+    /// Puts the term on this side of the equation at `at`, in place of what stood there. It takes no memory.
+    pub fn set_side(&mut self, at: usize, side: Side, term: Term)
+        requires { at < length self.old }
+        ensures { IfSome (slice_get self.old at) (λ e. self.new ≡ slice_set self.old at (with_side side e term)) }
+    {
+        let equation = &mut self.items[at];
+        match side {
+            Side::Left => equation.left = term,
+            Side::Right => equation.right = term,
+        }
     }
 }
 

@@ -68,6 +68,17 @@ pub fn copy_fn_type(alloc: Global, signature: &FnType) -> Result<FnType, NoMemor
     })
 }
 
+/// A copy of each function type. It takes memory, and fails only where there is none.
+pub fn copy_fn_types(alloc: Global, signatures: &[FnType]) -> Result<Items<FnType>, NoMemory>
+    ensures { IfOk result (λ r. r ≡ signatures.now) }
+{
+    let mut copied = Items::new(alloc);
+    for signature in signatures {
+        copied.push(copy_fn_type(alloc, signature)?)?;
+    }
+    Ok(copied)
+}
+
 /// A copy of the term. It takes memory, and fails only where there is none; its calls nest as deep as the
 /// term.
 #[cycle(copy)]

@@ -6,9 +6,13 @@
 
 mod clause;
 mod copying;
+mod depths;
+mod instances;
+mod laws;
 pub mod limits;
 mod memory;
 mod path;
+mod places;
 mod program;
 mod putting;
 mod row;
@@ -16,20 +20,28 @@ mod sameness;
 mod sequent;
 mod sizes;
 mod term;
+#[cfg(test)]
+mod tests;
 mod text;
 mod types;
 
 pub use clause::{Clause, Equation, EquationList, Sigma};
 pub use copying::{
-    copy, copy_equation, copy_equations, copy_fn_type, copy_fun, copy_funs, copy_terms, copy_ty,
+    copy, copy_equation, copy_equations, copy_fn_type, copy_fn_types, copy_fun, copy_funs, copy_terms, copy_ty,
     copy_tys,
 };
+pub use depths::{depth, depth_of_terms, depth_of_ty, depth_of_tys};
+pub use instances::{
+    instance, instance_of_fun, instance_of_funs, instance_of_terms, instance_of_ty, instance_of_tys,
+};
+pub use laws::{one_opening, stack_is_tree, stack_is_trees};
 pub use memory::NoMemory;
 pub use path::Path;
+pub use places::{at_path, child, replace_at};
 pub use program::{ConDef, DataDef, Declared, Def, Lemma, Names, Program, ReplicaDef};
 pub use putting::{put, put_equations};
 pub use row::{Kind, Ref, Row, Side, Target};
-pub use sameness::{same_fun, same_funs, same_ty, same_tys};
+pub use sameness::{same_fun, same_funs, same_term, same_terms, same_ty, same_tys};
 pub use sequent::{Context, Frame, Present, Sequent};
 pub use sizes::{size, size_of_terms, size_of_ty, size_of_tys};
 pub use term::{Term, Value};

@@ -28,6 +28,7 @@ pub Consumes-next : (bytes rest : List ℕ) (at piece count : ℕ) (old new : Li
     → count ≡ min piece (min (length old) (length rest)) → take count new ≡ take count rest
     → Consumes (Some (drop at bytes)) (Some (drop (at + count) bytes)) (take count new) × (count ≡ 0 → 0 < length new → drop (at + count) bytes ≡ [])
 Consumes-next bytes rest at piece count old new some same begins is front =
-    let after : drop count rest ≡ drop (at + count) bytes = ap (drop count) begins ∙ drop-drop count at bytes in
-    (sym begins ∙ sym (take-append-drop count rest) ∙ ap (λ l. l ++ drop count rest) (sym front) ∙ ap (λ l. take count new ++ l) after,
-     λ none room. sym after ∙ drop_all count rest (omega arith))
+    let after : drop count rest ≡ drop (at + count) bytes = ap (drop count) begins ∙ drop-drop count at bytes in (
+      sym begins ∙ sym (take-append-drop count rest) ∙ ap (λ l. l ++ drop count rest) (sym front) ∙ ap (λ l. take count new ++ l) after,
+      λ none room. sym after ∙ drop_all count rest (omega arith),
+    )

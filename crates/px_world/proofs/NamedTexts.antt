@@ -1,5 +1,5 @@
 -- Lemmas on lists of named texts.
-use Rattle.std.proofs.Common.{◌≡◌, ℕ, suc, zero, ◌+◌, ◌<◌, Bool, true, false, cond, List, [], ◌∷◌, ◌++◌, length, get_or, take, Option, None, Some, refl, sym, ◌∙◌, ap, arith, add-one}
+use Rattle.std.proofs.Common.{◌≡◌, ℕ, suc, zero, ◌+◌, ◌<◌, Bool, true, false, cond, List, [], ◌∷◌, ◌++◌, length, get_or, take, Option, None, Some, refl, sym, ◌∙◌, ap, arith}
 use Rattle.std.proofs.Common.{length-append, reverse}
 use Rattle.std.proofs.lemmas.List.{reverse-append}
 use Rattle.std.specs.List.{find}
@@ -43,18 +43,20 @@ bytes_at-read (x ∷ xs) (suc i) t lt e = bytes_at-read xs i t (omega arith) e
 
 -- the last text is the newest where it has the name
 pub IsNewest-here : (texts : List NamedText) (t : NamedText) (name : List ℕ) → bytes_eq t.name name ≡ true → IsNewest (texts ++ t ∷ []) name (Some (length texts))
-IsNewest-here texts t name e =
-    (omega (arith, length-append texts (t ∷ [])),
-     bytes_in-push texts t name ∙ ap (λ b. cond b (Some t.bytes) (bytes_in texts name)) e ∙ ap Some (sym (bytes_at-last texts t)))
+IsNewest-here texts t name e = (
+  omega (arith, length-append texts (t ∷ [])),
+  bytes_in-push texts t name ∙ ap (λ b. cond b (Some t.bytes) (bytes_in texts name)) e ∙ ap Some (sym (bytes_at-last texts t)),
+)
 
 -- and where it has not, the newest stays so
 pub IsNewest-before : (texts : List NamedText) (t : NamedText) (name : List ℕ) (newest : Option ℕ) → bytes_eq t.name name ≡ false
     → IsNewest texts name newest → IsNewest (texts ++ t ∷ []) name newest
 IsNewest-before texts t name None e before =
     bytes_in-push texts t name ∙ ap (λ b. cond b (Some t.bytes) (bytes_in texts name)) e ∙ before
-IsNewest-before texts t name (Some index) e before =
-    (omega (arith, length-append texts (t ∷ [])),
-     bytes_in-push texts t name ∙ ap (λ b. cond b (Some t.bytes) (bytes_in texts name)) e ∙ before.1 ∙ ap Some (sym (bytes_at-push texts t index before.0)))
+IsNewest-before texts t name (Some index) e before = (
+  omega (arith, length-append texts (t ∷ [])),
+  bytes_in-push texts t name ∙ ap (λ b. cond b (Some t.bytes) (bytes_in texts name)) e ∙ before.1 ∙ ap Some (sym (bytes_at-push texts t index before.0)),
+)
 
 -- a loop that has seen the texts before an index sees the next one
 pub IsNewest-more : (texts : List NamedText) (index : ℕ) (t : NamedText) (name : List ℕ) (newest after : Option ℕ)
@@ -63,13 +65,13 @@ pub IsNewest-more : (texts : List NamedText) (index : ℕ) (t : NamedText) (name
     → IsNewest (take (index + 1) texts) name after
 IsNewest-more texts index t name newest after lt e before branch =
     let front : take (index + 1) texts ≡ take index texts ++ t ∷ [] =
-        take_more texts index t lt ∙ ap (λ u. take index texts ++ u ∷ []) (sym e) in
+    take_more texts index t lt ∙ ap (λ u. take index texts ++ u ∷ []) (sym e) in
     let long : length (take index texts) ≡ index = omega (arith, length-take index texts) in
     let added : IsNewest (take index texts ++ t ∷ []) name after =
-        elim branch [
-          inl here ↦ subst (IsNewest (take index texts ++ t ∷ []) name) (sym (here.1 ∙ ap Some (sym long))) (IsNewest-here (take index texts) t name here.0)
-        | inr other ↦ subst (IsNewest (take index texts ++ t ∷ []) name) (sym other.1) (IsNewest-before (take index texts) t name newest other.0 before)
-        ] in
+    elim branch [
+      | inl here ↦ subst (IsNewest (take index texts ++ t ∷ []) name) (sym (here.1 ∙ ap Some (sym long))) (IsNewest-here (take index texts) t name here.0)
+      | inr other ↦ subst (IsNewest (take index texts ++ t ∷ []) name) (sym other.1) (IsNewest-before (take index texts) t name newest other.0 before)
+    ] in
     subst (λ all. IsNewest all name after) (sym front) added
 
 -- the bytes that a new text gives its name

@@ -1,12 +1,21 @@
-ghost use Rattle.std.specs.Prelude.{◌≡◌};
+ghost use Rattle.std.specs.Prelude.{◌≡◌, ◌≤◌};
+ghost use Rattle.px_world.specs.Faults.{next_count};
 ghost use Rattle.px_world.specs.declared.faults.ReadEnd.TheVariants.{NoMemory as NoMemoryEnd};
 
 use px_terms::NoMemory;
-use std::alloc::AllocError;
 
 /// A call of a device failed. The device has raised its count of faults.
 #[derive(Clone, Copy, Debug, PartialEq, Eq)]
 pub struct Failed;
+
+/// Counts one more fault, up to the last value of the count, and gives the answer for it.
+pub fn fault(count: &mut u64) -> Failed
+    ensures next { count.new ≡ next_count count.old }
+    ensures later { count.old ≤ count.new }
+{
+    *count = count.saturating_add(1);
+    Failed
+}
 
 /// A write failed, so only a front of the bytes was written. The sink has raised its count of faults.
 #[derive(Clone, Copy, Debug, PartialEq, Eq)]
@@ -21,14 +30,6 @@ pub enum ReadEnd {
     TooLong,
     /// No memory was left.
     NoMemory,
-}
-
-impl From<AllocError> for ReadEnd {
-    ghost from_gives = { λ _ end. end ≡ NoMemoryEnd };
-
-    fn from(_error: AllocError) -> ReadEnd {
-        ReadEnd::NoMemory
-    }
 }
 
 impl From<NoMemory> for ReadEnd {

@@ -1,3 +1,4 @@
+use crate::faults::fault;
 use crate::{Failed, Files};
 use std::fs::File;
 use std::io::Read;
@@ -42,16 +43,10 @@ impl Files for HostFiles<'_> {
     ghost faults = { host_file_faults };
 
     fn open_text(&mut self, name: &str) -> Result<(), Failed> {
-        self.file = None;
-        match File::open(self.rt, name) {
-            Ok(file) => {
-                self.file = Some(file);
-                Ok(())
-            }
-            Err(_) => {
-                self.faults = self.faults.saturating_add(1);
-                Err(Failed)
-            }
+        self.file = File::open(self.rt, name).ok();
+        match self.file {
+            Some(_) => Ok(()),
+            None => Err(fault(&mut self.faults)),
         }
     }
 
@@ -61,10 +56,20 @@ impl Files for HostFiles<'_> {
         };
         match file.read(buf) {
             Ok(count) => Ok(count),
-            Err(_) => {
-                self.faults = self.faults.saturating_add(1);
-                Err(Failed)
-            }
+            Err(_) => Err(fault(&mut self.faults)),
         }
+    }
+}
+
+#[cfg(test)]
+mod tests {
+    use super::*;
+
+    #[test]
+    fn a_missing_file_is_a_fault(rt: HostRuntime) {
+        let mut files = HostFiles::new(&rt);
+        assert_eq!(rt; files.faults, 0);
+        assert_eq!(rt; files.open_text("no/such/file"), Err(Failed));
+        assert_eq!(rt; files.faults, 1);
     }
 }

@@ -1,3 +1,4 @@
+use crate::faults::fault;
 use crate::{Failed, Sink};
 use std::io::Write;
 
@@ -61,10 +62,7 @@ impl Sink for HostOut<'_> {
         };
         match taken {
             Ok(count) if count > 0 || bytes.is_empty() => Ok(count),
-            _ => {
-                self.faults = self.faults.saturating_add(1);
-                Err(Failed)
-            }
+            _ => Err(fault(&mut self.faults)),
         }
     }
 }

@@ -12,11 +12,10 @@ mod memory_files;
 mod memory_sink;
 mod reading;
 mod sink;
-mod texts;
-mod writing;
-
 #[cfg(test)]
 mod tests;
+mod texts;
+mod writing;
 
 pub use bytes::Bytes;
 pub use faults::{Failed, ReadEnd, WriteFault};

@@ -1,6 +1,7 @@
 ghost use Rattle.std.specs.Prelude.{◌≡◌, ◌<◌, length};
 ghost use Rattle.std.specs.Option.{ForSome};
 
+use crate::faults::fault;
 use crate::texts::{NamedText, copy_piece, newest_of, rest_of};
 use crate::{Bytes, Failed, Files};
 use px_terms::{NoMemory, Text};
@@ -107,18 +108,14 @@ impl Files for MemoryFiles {
         self.calls = call.saturating_add(1);
         self.opened = None;
         if self.fails.contains(&call) {
-            self.faults = self.faults.saturating_add(1);
-            return Err(Failed);
+            return Err(fault(&mut self.faults));
         }
         match newest_of(&self.texts, name) {
             Some(text) => {
                 self.opened = Some(Place { text, at: 0 });
                 Ok(())
             }
-            None => {
-                self.faults = self.faults.saturating_add(1);
-                Err(Failed)
-            }
+            None => Err(fault(&mut self.faults)),
         }
     }
 
@@ -144,8 +141,7 @@ impl Files for MemoryFiles {
         let call = self.calls;
         self.calls = call.saturating_add(1);
         if self.fails.contains(&call) {
-            self.faults = self.faults.saturating_add(1);
-            return Err(Failed);
+            return Err(fault(&mut self.faults));
         }
         let Some(place) = self.opened else {
             unreachable!()

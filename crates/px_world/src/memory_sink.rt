@@ -1,5 +1,6 @@
 ghost use Rattle.std.specs.Prelude.{◌≡◌, ◌<◌};
 
+use crate::faults::fault;
 use crate::{Failed, Sink};
 use px_terms::NoMemory;
 use std::alloc::Global;
@@ -75,13 +76,11 @@ impl Sink for MemorySink {
         let call = self.calls;
         self.calls = call.saturating_add(1);
         if self.fails.contains(&call) {
-            self.faults = self.faults.saturating_add(1);
-            return Err(Failed);
+            return Err(fault(&mut self.faults));
         }
         let count = bytes.len().min(self.piece);
         if self.bytes.extend_from_slice(&bytes[..count]).is_err() {
-            self.faults = self.faults.saturating_add(1);
-            return Err(Failed);
+            return Err(fault(&mut self.faults));
         }
         Ok(count)
     }

@@ -10,6 +10,6 @@ loop-at-preserved g c = record {
   front =
       Appends-more _ _ _ _ _ _ c.loop-at.invariant.front
       (subst (λ rest. Appends (g.S.Sink.written c.loop-at.sink) (g.S.Sink.written c.write.new.self) (take c.in-Ok.count rest))
-       (take_rest c.args.bytes.now c.loop-at.at) c.in-Ok.ensures.bytes);
+      (take_rest c.args.bytes.now c.loop-at.at) c.in-Ok.ensures.bytes);
   later = omega (arith, c.in-Ok.ensures.cause.later);
 }

@@ -1,0 +1,6 @@
+mod ByteFacts
+mod FormFacts
+mod NumberFacts
+mod Readings
+mod ScanFacts
+mod TableFacts

@@ -1,0 +1,87 @@
+-- What the code of a row found opens the sequent.
+use Rattle.std.proofs.Common.{◌≡◌, ◌<◌, ◌≤◌, ◌+◌, ◌-◌, ℕ, zero, suc, List, [], ◌∷◌, ◌++◌, length, take, drop, get_or, slice_get, slice_set, Option, Some, IfSome, refl, sym, ap, subst, ◌∙◌, add-one, append_assoc, arith, All}
+use Rattle.std.proofs.Math.Seq.{drop-cons}
+use Rattle.std.proofs.Math.ListN.{drop_of_length-le}
+use Rattle.std.proofs.lemmas.List.{take-append-drop}
+use Rattle.std.proofs.lemmas.List.Elements.{All-set, All-get_or}
+use Rattle.std.proofs.lemmas.Option.{slice_get_within, get_or_from_slice_get}
+use Rattle.px_terms.specs.declared.types.Ty.{Ty}
+use Rattle.px_terms.specs.declared.types.FnType.{FnType}
+use Rattle.px_terms.specs.declared.term.Term.{Term}
+use Rattle.px_terms.specs.declared.clause.Equation.{Equation}
+use Rattle.px_terms.specs.declared.program.ConDef.{ConDef}
+use Rattle.px_terms.specs.declared.program.Def.{Def}
+use Rattle.px_terms.specs.declared.program.Program.{Program}
+use Rattle.px_terms.specs.declared.sequent.Sequent.{Sequent}
+use Rattle.px_terms.specs.declared.row.Side.{Side}
+use Rattle.px_terms.specs.declared.row.Side.TheVariants.{Left, Right}
+use Rattle.px_terms.specs.declared.row.Kind.{Kind}
+use Rattle.px_terms.specs.declared.row.Target.TheVariants as target
+use Rattle.px_terms.specs.declared.row.Row.TheVariants as row
+use Rattle.px_terms.specs.TreeEdits.{with_side}
+use Rattle.px_terms.specs.Clauses.{IsClause, Shape, comm, idem, comm_clause, idem_clause}
+use Rattle.px_terms.specs.Sequents.{side_of, IsSmall, IsSmallEquation, IsWithinLimits}
+use Rattle.px_terms.specs.Derivations.{Opens, step, case_of, cases_from}
+use Rattle.px_terms.specs.declared.term.Term.TheVariants as term
+use Rattle.px_replay.specs.Own.{variables_and, plain_call, plain_clause}
+use Rattle.px_replay.specs.Replays.{StepsSide}
+
+-- an element that is found has what all elements have
+pub all_at : {X : Type 0} (P : X → Type 0) (xs : List X) (k : ℕ) (x : X) → slice_get xs k ≡ Some x → All P xs → P x
+all_at P xs k x found all = subst P (get_or_from_slice_get xs k x x found) (All-get_or P xs k x (slice_get_within xs k x found) all)
+
+-- an equation within the limits, with a small side in place of one
+small_with_side : (side : Side) (e : Equation) (t : Term) → IsSmallEquation e → IsSmall t → IsSmallEquation (with_side side e t)
+small_with_side Left e t whole small = record { left = small; right = whole.right }
+small_with_side Right e t whole small = record { left = whole.left; right = small }
+
+-- the written list is the one with the stepped side
+written : (P : Program) (s : Sequent) (at : ℕ) (side : Side) (path : List ℕ) (kind : Kind) (t : Term) (steps : StepsSide P s at side path kind t) (alternatives : List Equation) → IfSome (slice_get s.alternatives at) (λ e. alternatives ≡ slice_set s.alternatives at (with_side side e t)) → alternatives ≡ slice_set s.alternatives at (with_side side steps.equation t)
+written P s at side path kind t steps alternatives is = subst (λ (o : Option Equation). IfSome o (λ e. alternatives ≡ slice_set s.alternatives at (with_side side e t))) steps.found is
+
+-- a small side in place of one keeps the limits
+pub step_is_small : (P : Program) (s : Sequent) (at : ℕ) (side : Side) (path : List ℕ) (kind : Kind) (t : Term) (steps : StepsSide P s at side path kind t) (alternatives : List Equation) → IfSome (slice_get s.alternatives at) (λ e. alternatives ≡ slice_set s.alternatives at (with_side side e t)) → IsWithinLimits s → IsWithinLimits (record s { alternatives = alternatives })
+step_is_small P s at side path kind t steps alternatives is within =
+    let small : All IsSmallEquation (slice_set s.alternatives at (with_side side steps.equation t)) = All-set IsSmallEquation s.alternatives at (with_side side steps.equation t) (small_with_side side steps.equation t (all_at IsSmallEquation s.alternatives at steps.equation steps.found within.alternatives) (steps.step s.facts).small) within.alternatives in
+    record {
+      vars = within.vars;
+      present = within.present;
+      facts = within.facts;
+      alternatives = subst (All IsSmallEquation) (sym (written P s at side path kind t steps alternatives is)) small;
+      few_facts = within.few_facts;
+      few_variables = within.few_variables;
+    }
+
+-- a step on a side opens the sequent onto the one with the stepped side
+pub step_opens : (P : Program) (n : ℕ) (s : Sequent) (at : ℕ) (side : Side) (path : List ℕ) (kind : Kind) (t : Term) (steps : StepsSide P s at side path kind t) (alternatives : List Equation) → IfSome (slice_get s.alternatives at) (λ e. alternatives ≡ slice_set s.alternatives at (with_side side e t)) → IsWithinLimits s → Opens P n s (row.Step (target.Alternative at side) path kind) (record s { alternatives = alternatives } ∷ [])
+step_opens P n s at side path kind t steps alternatives is within =
+    step steps.found (steps.step s.facts) (ap (λ (es : List Equation). record s { alternatives = es }) (written P s at side path kind t steps alternatives is)) (step_is_small P s at side path kind t steps alternatives is within)
+
+-- one more case of a variable
+pub cases_push : (s : Sequent) (v d : ℕ) (args : List Ty) (children : List Sequent) (place : ℕ) (constructors : List ConDef) (c : ConDef) (child : Sequent) (all : List Sequent) → place < length constructors → c ≡ get_or constructors place c → child ≡ case_of s v d args place c → children ++ cases_from s v d args place (drop place constructors) ≡ all → (children ++ child ∷ []) ++ cases_from s v d args (place + 1) (drop (place + 1) constructors) ≡ all
+cases_push s v d args children place constructors c child all within is child_is so_far =
+    let rest = drop (place + 1) constructors in
+    let split : drop place constructors ≡ c ∷ rest = drop-cons constructors place c within ∙ (ap (λ (x : ConDef). x ∷ drop (suc place) constructors) (sym is) ∙ ap (λ (n : ℕ). c ∷ drop n constructors) (sym (add-one place))) in
+    append_assoc children (child ∷ []) (cases_from s v d args (place + 1) rest)
+    ∙ (ap (λ (x : Sequent). children ++ x ∷ cases_from s v d args (place + 1) rest) child_is
+    ∙ (ap (λ (cs : List ConDef). children ++ cases_from s v d args place cs) (sym split) ∙ so_far))
+
+-- a list of at least two ends with its last two
+pub two_last : {A : Type 0} (xs : List A) (x y : A) → 2 ≤ length xs → x ≡ get_or xs (length xs - 2) x → y ≡ get_or xs (length xs - 1) y → xs ≡ take (length xs - 2) xs ++ x ∷ y ∷ []
+two_last {A} xs x y long x_is y_is =
+    let n = length xs - 2 in
+    let place : length xs - 1 ≡ suc n = omega arith in
+    let first : drop n xs ≡ get_or xs n x ∷ drop (suc n) xs = drop-cons xs n x (omega arith) in
+    let second : drop (suc n) xs ≡ get_or xs (suc n) y ∷ drop (suc (suc n)) xs = drop-cons xs (suc n) y (omega arith) in
+    let none : drop (suc (suc n)) xs ≡ [] = drop_of_length-le xs {i = suc (suc n)} (omega arith) in
+    let y_there : get_or xs (suc n) y ≡ y = ap (λ (k : ℕ). get_or xs k y) (sym place) ∙ sym y_is in
+    let ends : drop n xs ≡ x ∷ y ∷ [] = first ∙ (ap (λ (z : A). z ∷ drop (suc n) xs) (sym x_is) ∙ ap (λ (zs : List A). x ∷ zs) (second ∙ (ap (λ (z : A). z ∷ drop (suc (suc n)) xs) y_there ∙ ap (λ (zs : List A). y ∷ zs) none))) in
+    sym (take-append-drop n xs) ∙ ap (λ (zs : List A). take n xs ++ zs) ends
+
+-- the commutativity of a definition without type and function parameters
+pub comm_is_clause : (P : Program) (n : ℕ) (d : Def) (s : Shape) (count : ℕ) → slice_get P.defs n ≡ Some d → d.tparams ≡ 0 → d.funs ≡ [] → d.params ≡ s.leading ++ s.last ∷ s.last ∷ [] → count ≡ length s.leading → plain_clause (s.leading ++ s.last ∷ s.last ∷ []) (plain_call n (variables_and count count (count + 1))) (plain_call n (variables_and count (count + 1) count)) ≡ comm_clause n d s
+comm_is_clause P n d s count found tparams_is funs_is shape count_is = rw (tparams_is, funs_is, ← count_is) refl
+
+-- the idempotence of a definition without type and function parameters
+pub idem_is_clause : (P : Program) (n : ℕ) (d : Def) (s : Shape) (count : ℕ) → slice_get P.defs n ≡ Some d → d.tparams ≡ 0 → d.funs ≡ [] → d.params ≡ s.leading ++ s.last ∷ s.last ∷ [] → count ≡ length s.leading → plain_clause (s.leading ++ s.last ∷ []) (plain_call n (variables_and count count count)) (term.Free count) ≡ idem_clause n d s
+idem_is_clause P n d s count found tparams_is funs_is shape count_is = rw (tparams_is, funs_is, ← count_is) refl

@@ -1,0 +1,69 @@
+-- What replay has done so far: the stack of open sequents, the rows that led to it, and the text that they are.
+use Rattle.std.specs.Prelude.{◌≡◌, ℕ, List, [], ◌∷◌, ◌++◌, length, reverse, slice_get, slice_set, Some, None, All}
+use Rattle.px_terms.specs.declared.term.Term.{Term}
+use Rattle.px_terms.specs.declared.clause.Equation.{Equation}
+use Rattle.px_terms.specs.declared.program.Program.{Program}
+use Rattle.px_terms.specs.declared.sequent.Sequent.{Sequent}
+use Rattle.px_terms.specs.declared.row.Side.{Side}
+use Rattle.px_terms.specs.declared.row.Kind.{Kind}
+use Rattle.px_terms.specs.declared.row.Row.{Row}
+use Rattle.px_terms.specs.declared.row.Row.TheVariants as row
+use Rattle.px_terms.specs.TreeEdits.{equations_put}
+use Rattle.px_terms.specs.Sequents.{side_of, IsWithinLimits, frame_put}
+use Rattle.px_terms.specs.Steps.{Step}
+use Rattle.px_terms.specs.Derivations.{Opens, Leads, Tree, DerivesObligation, rows_of}
+use Rattle.px_terms.specs.Spelling.{line_of, lines_of, rows_from}
+
+-- the sequent with a term put in for a variable, which is no longer live
+abbrev pub put_case : Sequent → ℕ → Term → Sequent
+put_case s v by = record {
+    context = record { tparams = s.context.tparams; funs = s.context.funs; vars = slice_set s.context.vars v None };
+    frame = frame_put v by s.frame;
+    facts = equations_put v by s.facts;
+    alternatives = equations_put v by s.alternatives;
+    next = s.next;
+  }
+
+-- The sides of an alternative are one term.
+pub record SidesAreOne (s : Sequent) (at : ℕ) : Type 0 where
+  pub equation : Equation
+  pub found : slice_get s.alternatives at ≡ Some equation
+  pub one : equation.left ≡ equation.right
+
+-- The term is what a step makes of a side of an alternative.
+pub record StepsSide (P : Program) (s : Sequent) (at : ℕ) (side : Side) (path : List ℕ) (kind : Kind) (t : Term) : Type 0 where
+  pub equation : Equation
+  pub found : slice_get s.alternatives at ≡ Some equation
+  pub step : (facts : List Equation) → Step P facts (side_of equation side) path kind t
+
+-- The row opens the sequent, and its children were put on the stack, the first on top; a stack's last item is its top.
+pub record Opened (P : Program) (n : ℕ) (s : Sequent) (r : Row) (old new : List Sequent) : Type 0 where
+  pub children : List Sequent
+  pub opens : Opens P n s r children
+  pub stack : new ≡ old ++ reverse children
+  pub small : All IsWithinLimits children
+
+-- The text begins with a row that opens the sequent, and then comes the rest.
+pub record ReplaysRow (P : Program) (n : ℕ) (s : Sequent) (old new : List Sequent) (text rest : List ℕ) : Type 0 where
+  pub row : Row
+  pub opened : Opened P n s row old new
+  pub line : text ≡ line_of row ++ 10 ∷ rest
+
+-- The text begins with rows that lead from the first sequent to this stack, and then comes the rest.
+pub record HasReplayed (P : Program) (n : ℕ) (first : Sequent) (stack : List Sequent) (text rest : List ℕ) : Type 0 where
+  pub rows : List Row
+  pub leads : Leads P n (first ∷ []) rows (reverse stack)
+  pub lines : text ≡ lines_of rows ++ rest
+
+-- The text begins with the header and the rows of a tree that derives obligation n, and then comes the rest.
+pub record ReplaysObligation (P : Program) (n : ℕ) (text rest : List ℕ) : Type 0 where
+  pub tree : Tree
+  pub derives : DerivesObligation P n tree
+  pub lines : text ≡ lines_of (row.Header n tree.on ∷ rows_of tree.root) ++ rest
+
+-- The text begins with trees that derive the obligations below n, and then comes the rest.
+pub record ReplaysBelow (P : Program) (n : ℕ) (text rest : List ℕ) : Type 0 where
+  pub trees : List Tree
+  pub count : length trees ≡ n
+  pub each : (i : ℕ) (tree : Tree) → slice_get trees i ≡ Some tree → DerivesObligation P i tree
+  pub lines : text ≡ lines_of (rows_from 0 trees) ++ rest

@@ -1,0 +1,147 @@
+//! Rows: what a row does to the top of the stack of open sequents.
+
+ghost use Rattle.std.specs.Prelude.{◌≡◌, ◌++◌, ◌∷◌, [], IfOk, OnOk, IsTrue, reverse, List};
+ghost use Rattle.px_terms.specs.Sequents.{IsWithinLimits};
+ghost use Rattle.px_terms.specs.Derivations.{Opens};
+ghost use Rattle.px_replay.specs.Replays.{SidesAreOne, StepsSide, Opened};
+
+use std::alloc::Global;
+
+use px_terms::{Kind, NoMemory, Path, Program, Row, Sequent, Side, Target, Term, same_term};
+use sqlite_items::{Items, at};
+
+use crate::cases::cases;
+use crate::replay::ReplayEnd;
+use crate::steps::stepped;
+
+/// Applies a row to a sequent of obligation `number`, and puts its children on the stack, the first on top.
+/// Rejected where the row does not apply.
+pub(crate) fn open_sequent(
+    alloc: Global,
+    program: &Program,
+    number: u32,
+    sequent: Sequent,
+    row: &Row,
+    stack: &mut Items<Sequent>,
+) -> Result<(), ReplayEnd>
+    requires { IsWithinLimits sequent }
+    ensures { OnOk result (Opened program.now number sequent row.now stack.old stack.new) }
+{
+    if let Row::Step { target, path, kind } = row {
+        return open_stepped(alloc, program, number, sequent, *target, path, *kind, stack);
+    }
+    open_lent(alloc, program, number, &sequent, row, stack)
+}
+
+/// Applies a step, and puts the sequent back.
+fn open_stepped(
+    alloc: Global,
+    program: &Program,
+    number: u32,
+    sequent: Sequent,
+    target: Target,
+    path: &Path,
+    kind: Kind,
+    stack: &mut Items<Sequent>,
+) -> Result<(), ReplayEnd>
+    requires { IsWithinLimits sequent }
+    ensures { OnOk result (Opened program.now number sequent (Row.Step target path.now kind) stack.old stack.new) }
+{
+    let child = step(alloc, program, number, sequent, target, path, kind)?;
+    stack.push(child)?;
+    Ok(())
+}
+
+/// Applies a row that leaves nothing of the sequent, or several children of it.
+fn open_lent(
+    alloc: Global,
+    program: &Program,
+    number: u32,
+    sequent: &Sequent,
+    row: &Row,
+    stack: &mut Items<Sequent>,
+) -> Result<(), ReplayEnd>
+    ensures { OnOk result (Opened program.now number sequent.now row.now stack.old stack.new) }
+{
+    match row {
+        Row::Same { alternative } => {
+            if !is_same(sequent, *alternative) {
+                return Err(ReplayEnd::Rejected);
+            }
+            Ok(())
+        }
+        Row::CaseVar { variable } => {
+            let children = cases(alloc, program, number, sequent, *variable)?;
+            push_reversed(stack, children)?;
+            Ok(())
+        }
+        Row::Header { .. } | Row::Step { .. } => Err(ReplayEnd::Rejected),
+    }
+}
+
+/// The sides of this alternative are one term.
+fn is_same(sequent: &Sequent, alternative: u32) -> bool
+    ensures { IsTrue result → SidesAreOne sequent.now alternative }
+{
+    match at(sequent.alternatives.as_slice(), alternative as usize) {
+        Some(equation) => same_term(&equation.left, &equation.right),
+        None => false,
+    }
+}
+
+/// The sequent with the stepped side in its old place. Rejected where there is no such step, or where it is
+/// on a fact (as yet).
+fn step(
+    alloc: Global,
+    program: &Program,
+    number: u32,
+    mut sequent: Sequent,
+    target: Target,
+    path: &Path,
+    kind: Kind,
+) -> Result<Sequent, ReplayEnd>
+    requires { IsWithinLimits sequent }
+    ensures opens { IfOk result (λ child. Opens program.now number sequent (Row.Step target path.now kind) (child ∷ [])) }
+    ensures small { IfOk result IsWithinLimits }
+{
+    let Target::Alternative { number: place, side } = target else {
+        return Err(ReplayEnd::Rejected);
+    };
+    let whole = step_side(alloc, program, &sequent, place, side, path, kind)?;
+    sequent.alternatives.set_side(place as usize, side, whole);
+    Ok(sequent)
+}
+
+/// What a step makes of a side of an alternative.
+fn step_side(
+    alloc: Global,
+    program: &Program,
+    sequent: &Sequent,
+    place: u32,
+    side: Side,
+    path: &Path,
+    kind: Kind,
+) -> Result<Term, ReplayEnd>
+    ensures { IfOk result (StepsSide program.now sequent.now place side path.now kind) }
+{
+    let Some(equation) = at(sequent.alternatives.as_slice(), place as usize) else {
+        return Err(ReplayEnd::Rejected);
+    };
+    match side {
+        Side::Left => stepped(alloc, program, &equation.left, path, kind),
+        Side::Right => stepped(alloc, program, &equation.right, path, kind),
+    }
+}
+
+/// Moves the sequents onto the stack, the first on top.
+fn push_reversed(
+    stack: &mut Items<Sequent>,
+    mut children: Items<Sequent>,
+) -> Result<(), NoMemory>
+    ensures { OnOk result (stack.new ≡ stack.old ++ reverse children) }
+{
+    while let Some(child) = children.pop() {
+        stack.push(child)?;
+    }
+    Ok(())
+}

@@ -1,0 +1,5 @@
+pub mod Largest
+pub mod Openings
+pub mod Replacing
+pub mod Shapes
+pub mod Stacks

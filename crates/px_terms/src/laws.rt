@@ -1,0 +1,20 @@
+ghost use Rattle.px_terms.specs.Laws.{OneOpening, StacksAreTrees, EachStackIsTree};
+
+/// A row leaves at most one list of children of a sequent, so the rows say which tree they are of.
+pub fn one_opening()
+    ensures { OneOpening }
+{
+}
+
+/// Rows lead from a stack of open sequents to none exactly where they are the rows of trees that derive
+/// its sequents, one tree for each in order.
+pub fn stack_is_trees()
+    ensures { StacksAreTrees }
+{
+}
+
+/// Rows lead from one open sequent to none exactly where they are the rows of a tree that derives it.
+pub fn stack_is_tree()
+    ensures { EachStackIsTree }
+{
+}
