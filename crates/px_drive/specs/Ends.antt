@@ -1,0 +1,72 @@
+-- The table of causes. A command is a chain of stages, in the order of its refusals: a later stage begins only where
+-- each earlier one answered a value, so an end comes only where its own stage has it and no earlier one refused.
+use Rattle.std.specs.Prelude.{◌≡◌, ℕ, ◌<◌, ◌≤◌, ◌⊎◌, List, [], length, take, IsTrue, ⊤, Result, Ok, Err}
+use Rattle.std.specs.Io.KnownBytes.{Appends, Consumes}
+use Rattle.px_terms.specs.declared.program.Program.{Program}
+use Rattle.px_terms.specs.declared.limits.TheConstants.{PROGRAM_BYTES, DERIVATION_BYTES}
+use Rattle.px_terms.specs.Spelling.{IsDerivationText}
+use Rattle.px_world.specs.Known.{Told}
+use Rattle.px_world.specs.Faults.{Rose}
+use Rattle.px_replay.specs.Thin.{IsThinSource}
+use Rattle.px_drive.specs.declared.outcome.CommandLine.{CommandLine}
+use Rattle.px_drive.specs.declared.outcome.CommandLine.TheVariants.{Replay}
+use Rattle.px_drive.specs.declared.outcome.Which.{Which}
+use Rattle.px_drive.specs.declared.outcome.Which.TheVariants as which
+use Rattle.px_drive.specs.declared.outcome.End.{End}
+use Rattle.px_drive.specs.declared.outcome.End.TheVariants.{Done, Source, Rejected, ReadFault, WriteFault, NoMemory, TooLong}
+use Rattle.px_drive.specs.declared.outcome.SourceFault.TheVariants.{Unbuilt}
+use Rattle.px_drive.specs.Messages.{accepted_line}
+use Rattle.px_drive.specs.Seen.{FilesSeen, SinkSeen}
+
+-- how many bytes a text may have
+abbrev pub limit_of : Which → ℕ
+limit_of which.Program = PROGRAM_BYTES
+limit_of which.Derivation = DERIVATION_BYTES
+
+-- Reading a text whole: its bytes, within the limit; or too long, where more bytes than the limit came; or a fault,
+-- where the count rose and no more bytes than the limit came before.
+abbrev pub ReadsText : Which → FilesSeen → List ℕ → Result (List ℕ) End → Type 0
+ReadsText text files name (Ok bytes) = Told (files.bytes name) bytes × (length bytes ≤ limit_of text)
+ReadsText text files name (Err (TooLong long)) = (long ≡ text) × ((came : List ℕ) × Consumes (files.bytes name) files.left came × (limit_of text < length came))
+ReadsText text files name (Err ReadFault) = Rose files.before files.after × (IsTrue files.opened → (came : List ℕ) × Consumes (files.bytes name) files.left came × (length came ≤ limit_of text))
+ReadsText text files name (Err NoMemory) = ⊤
+ReadsText text files name (Err _) = ⊥
+
+-- the program of the bytes
+abbrev pub Sources : List ℕ → Result Program End → Type 0
+Sources bytes (Ok program) = IsThinSource bytes program
+Sources bytes (Err (Source Unbuilt)) = ⊤
+Sources bytes (Err NoMemory) = ⊤
+Sources bytes (Err _) = ⊥
+
+-- the number of obligations of a program of which the bytes are a derivation
+abbrev pub Accepts : Program → List ℕ → Result ℕ End → Type 0
+Accepts program bytes (Ok n) = IsDerivationText program bytes × (n ≡ length program.declared)
+Accepts program bytes (Err Rejected) = ⊤
+Accepts program bytes (Err NoMemory) = ⊤
+Accepts program bytes (Err _) = ⊥
+
+-- the last stage prints its line: whole where the work is done, and a front of it where the count of the sink rose
+abbrev pub Prints : List ℕ → SinkSeen → End → List ℕ → Type 0
+Prints line out Done printed = printed ≡ line
+Prints line out WriteFault printed = Rose out.before out.after × ((n : ℕ) × (printed ≡ take n line))
+Prints line out _ printed = ⊥
+
+-- a stage that ends the command before it printed, or that answers a value for the rest
+abbrev pub AndThen : {T : Type 0} → (Result T End → Type 0) → (T → End → List ℕ → Type 0) → End → List ℕ → Type 0
+AndThen {T} stage rest end printed = (stage (Err end) × (printed ≡ [])) ⊎ ((value : T) × stage (Ok value) × rest value end printed)
+
+-- where a line ends, and what it printed: a row for each command
+abbrev pub LineEnds : FilesSeen → SinkSeen → CommandLine → End → List ℕ → Type 0
+LineEnds files out (Replay file derivation) =
+    AndThen (ReadsText which.Program files file) (λ text.
+    AndThen (Sources text) (λ program.
+    AndThen (ReadsText which.Derivation files derivation) (λ bytes.
+    AndThen (Accepts program bytes) (λ n.
+    Prints (accepted_line n) out))))
+
+-- a line ends so, and the sink gained what the line printed
+pub record Runs (files : FilesSeen) (out : SinkSeen) (line : CommandLine) (end : End) : Type 0 where
+  pub printed : List ℕ
+  pub allowed : LineEnds files out line end printed
+  pub wrote : Appends out.old out.new printed

@@ -1,0 +1,6 @@
+pub mod Lines
+pub mod Messages
+pub mod Seen
+pub mod Ends
+pub mod Answers
+pub mod Laws

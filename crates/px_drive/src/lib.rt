@@ -1,0 +1,20 @@
+//! The top call. `drive` reads the words of a command line, reads the texts that the line names, does the
+//! command's work, and prints its answer or the one line of its refusal; `status` is the number that the
+//! program ends with. Its contract is the table of causes: in `specs/Ends.antt` a command is a chain of
+//! stages in the order of its refusals, and in `specs/Answers.antt` an outcome is an end of that table.
+//! What a program and a derivation are is left to the crates below, and real files to the program above.
+#![tactic(auto)]
+
+mod chain;
+mod command;
+pub mod laws;
+mod line;
+mod messages;
+mod outcome;
+mod stages;
+#[cfg(test)]
+mod tests;
+
+pub use command::drive;
+pub use messages::status;
+pub use outcome::{CommandLine, End, Outcome, SourceFault, Which};

@@ -1,0 +1,51 @@
+ghost use Rattle.std.specs.Prelude.{◌≡◌, map, string_bytes, IfOk};
+ghost use Rattle.px_drive.specs.Lines.{line_of, replay_line, is_file};
+
+use crate::CommandLine;
+use px_terms::{NoMemory, Text};
+use std::alloc::Global;
+
+/// The plain line that the words are, or `None` exactly where they are none. It takes memory for the
+/// line's words.
+pub fn read_line(alloc: Global, words: &[String]) -> Result<Option<CommandLine>, NoMemory>
+    ensures { IfOk result (λ line. line ≡ line_of (map string_bytes words.now)) }
+{
+    match words {
+        [command, args @ ..] => match command.as_str() {
+            "replay" => read_replay(alloc, args),
+            _ => Ok(None),
+        },
+        [] => Ok(None),
+    }
+}
+
+/// The line of `replay F D`, by the words after `replay`.
+fn read_replay(alloc: Global, args: &[String]) -> Result<Option<CommandLine>, NoMemory>
+    ensures { IfOk result (λ line. line ≡ replay_line (map string_bytes args.now)) }
+{
+    match args {
+        [file, derivation] if names_file(file.as_str()) && names_file(derivation.as_str()) => {
+            let file = copy_word(alloc, file.as_str())?;
+            let derivation = copy_word(alloc, derivation.as_str())?;
+            Ok(Some(CommandLine::Replay { file, derivation }))
+        }
+        _ => Ok(None),
+    }
+}
+
+/// Whether a word can name a file: it isn't empty and doesn't begin with `-`.
+fn names_file(word: &str) -> bool
+    ensures { result ≡ is_file word.now }
+{
+    match word.as_bytes() {
+        [first, ..] => *first != b'-',
+        [] => false,
+    }
+}
+
+/// A copy of a word.
+fn copy_word(alloc: Global, word: &str) -> Result<Text, NoMemory>
+    ensures { IfOk result (λ text. text ≡ word.now) }
+{
+    Ok(Text::new(String::from_str(alloc, word)?))
+}
