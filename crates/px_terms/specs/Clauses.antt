@@ -1,15 +1,12 @@
 -- The clause of a property: for commutativity and idempotence of definitions.
-use Rattle.std.specs.Prelude.{◌≡◌, ℕ, zero, suc, ◌+◌, List, [], ◌∷◌, ◌++◌, length, map, Option, Some, None, slice_get}
+use Rattle.std.specs.Prelude.{◌≡◌, ℕ, zero, suc, ◌+◌, List, [], ◌∷◌, ◌++◌, length, map, Some, slice_get}
 use Rattle.px_terms.specs.declared.types.Ty.{Ty}
 use Rattle.px_terms.specs.declared.types.Ty.TheVariants as type
-use Rattle.px_terms.specs.declared.types.Head.{Head}
 use Rattle.px_terms.specs.declared.types.Head.TheVariants as head
-use Rattle.px_terms.specs.declared.types.Fun.{Fun}
 use Rattle.px_terms.specs.declared.types.Prop.{Prop}
 use Rattle.px_terms.specs.declared.types.Prop.TheVariants as prop
 use Rattle.px_terms.specs.declared.term.Term.{Term}
 use Rattle.px_terms.specs.declared.term.Term.TheVariants as term
-use Rattle.px_terms.specs.declared.clause.Equation.{Equation}
 use Rattle.px_terms.specs.declared.clause.Clause.{Clause}
 use Rattle.px_terms.specs.declared.program.Def.{Def}
 use Rattle.px_terms.specs.declared.program.Program.{Program}

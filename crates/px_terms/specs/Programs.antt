@@ -1,5 +1,5 @@
 -- Programs as plain data: what is found in them by number.
-use Rattle.std.specs.Prelude.{◌≡◌, ℕ, zero, List, [], ◌∷◌, Option, Some, None, slice_get, option_and_then}
+use Rattle.std.specs.Prelude.{ℕ, [], ◌∷◌, Option, slice_get, option_and_then}
 use Rattle.std.specs.Option.{option_map}
 use Rattle.px_terms.specs.declared.types.Ty.{Ty}
 use Rattle.px_terms.specs.declared.types.Ty.TheVariants as type

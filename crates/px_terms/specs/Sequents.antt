@@ -1,10 +1,9 @@
 -- Sequents: the first one of an obligation, their limits, and what a row changes in them.
-use Rattle.std.specs.Prelude.{◌≡◌, ℕ, ◌≤◌, ◌+◌, ◌==◌, List, [], ◌∷◌, length, map, slice_get, slice_set, Option, Some, None, if◌then◌else◌, All, IfSome}
+use Rattle.std.specs.Prelude.{ℕ, ◌≤◌, List, length, map, slice_set, Option, All, IfSome}
 use Rattle.px_terms.specs.declared.types.Ty.{Ty}
 use Rattle.px_terms.specs.declared.term.Term.{Term}
 use Rattle.px_terms.specs.declared.clause.Equation.{Equation}
 use Rattle.px_terms.specs.declared.clause.Clause.{Clause}
-use Rattle.px_terms.specs.declared.sequent.Context.{Context}
 use Rattle.px_terms.specs.declared.sequent.Present.{Present}
 use Rattle.px_terms.specs.declared.sequent.Frame.{Frame}
 use Rattle.px_terms.specs.declared.sequent.Sequent.{Sequent}
