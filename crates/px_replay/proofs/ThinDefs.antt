@@ -18,6 +18,8 @@ def_whole word name paren_l paren_r colon result opening closing params properti
 
 pub takes_def : (text : List ℕ) (head : Head) (body : Term) (tokens t1 t2 t3 rest : List Token) → TakesThinHead text head tokens t1 → BeginsWith (IsMark mark.BraceL) t1 t2 → Takes (λ used. IsThinTerm text head.params 1 used body) t2 t3 → BeginsWith (IsMark mark.BraceR) t3 rest → Takes (λ used. IsThinDef text used (thin_def (record { head = head; body = body }))) tokens rest
 takes_def text head body tokens t1 t2 t3 rest front opening inside closing =
-    record { used = def_tokens front.word front.name front.opening front.params front.closing front.is_result.colon front.is_result.bool front.props opening.token inside.used closing.token;
+    record {
+      used = def_tokens front.word front.name front.opening front.params front.closing front.is_result.colon front.is_result.bool front.props opening.token inside.used closing.token;
       are = IsThinDef.written front.is_word front.is_name front.is_opening front.are_params front.is_closing front.is_result.is_colon front.is_result.is_bool front.are_props opening.is inside.are closing.is (record { params = front.distinct_params; props = front.distinct_props; fits = front.fits }) refl;
-      whole = def_whole front.word front.name front.opening front.closing front.is_result.colon front.is_result.bool opening.token closing.token front.params front.props inside.used tokens front.result front.after t1 t2 t3 rest front.whole front.is_result.whole front.whole_after opening.whole inside.whole closing.whole }
+      whole = def_whole front.word front.name front.opening front.closing front.is_result.colon front.is_result.bool opening.token closing.token front.params front.props inside.used tokens front.result front.after t1 t2 t3 rest front.whole front.is_result.whole front.whole_after opening.whole inside.whole closing.whole;
+    }

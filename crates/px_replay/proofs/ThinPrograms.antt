@@ -69,10 +69,13 @@ no_defs text tokens draft is = record { ds = []; used = []; are = AreThinDefs.no
 
 pub one_more_def : (text : List ℕ) (tokens rest after : List Token) (old new : Draft) (written : Written) → DefsSoFar text tokens rest old → Takes (λ used. IsThinDef text used (thin_def written)) rest after → ((ds : List ThinDef) → IsDraftOf old ds → IsDraftOf new (ds ++ thin_def written ∷ [])) → DefsSoFar text tokens after new
 one_more_def text tokens rest after old new written before taken adds =
-    record { ds = before.ds ++ thin_def written ∷ []; used = before.used ++ taken.used;
+    record {
+      ds = before.ds ++ thin_def written ∷ [];
+      used = before.used ++ taken.used;
       are = defs_more before.are taken.are;
       draft_of = adds before.ds before.draft_of;
-      whole = before.whole ∙ ap (λ ts. before.used ++ ts) taken.whole ∙ sym (append_assoc before.used taken.used after) }
+      whole = before.whole ∙ ap (λ ts. before.used ++ ts) taken.whole ∙ sym (append_assoc before.used taken.used after);
+    }
 
 pub all_defs : (text : List ℕ) (tokens rest : List Token) (draft : Draft) → DefsSoFar text tokens rest draft → length rest ≡ 0 → IsReadAs text tokens draft
 all_defs text tokens rest draft read none =

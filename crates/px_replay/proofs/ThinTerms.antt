@@ -29,12 +29,16 @@ module _ (text : List ℕ) (names : List (List ℕ)) (nesting : ℕ) (fits : nes
 
   pub takes_match : (t1 t2 t3 t4 t5 t6 : List Token) (on : Term) (b1 : Bool) (a1 : Term) (b2 : Bool) (a2 result : Term) → BeginsWith (IsKey key.KMatch) tokens t1 → Takes (λ used. IsThinTerm text names (nesting + 1) used on) t1 t2 → BeginsWith (IsMark mark.BraceL) t2 t3 → TakesThinArm text names nesting b1 a1 t3 t4 → BeginsWith (IsMark mark.Comma) t4 t5 → TakesThinArm text names nesting b2 a2 t5 t6 → BeginsWith (IsMark mark.BraceR) t6 rest → IsMatchOf on b1 a1 b2 a2 result → TakesTerm result
   takes_match t1 t2 t3 t4 t5 t6 on false a1 true a2 result word scrutinee opening first comma second closing is =
-      record { used = match_tokens word.token scrutinee.used opening.token first.name first.arrow first.expression comma.token second.name second.arrow second.expression closing.token;
+      record {
+        used = match_tokens word.token scrutinee.used opening.token first.name first.arrow first.expression comma.token second.name second.arrow second.expression closing.token;
         are = false_first fits word.is scrutinee.are opening.is first.is_name first.is_arrow first.is_expression comma.is second.is_name second.is_arrow second.is_expression closing.is refl is;
-        whole = match_whole word.token opening.token first.name first.arrow comma.token second.name second.arrow closing.token scrutinee.used first.expression second.expression tokens t1 t2 t3 t4 t5 t6 rest word.whole scrutinee.whole opening.whole first.whole comma.whole second.whole closing.whole }
+        whole = match_whole word.token opening.token first.name first.arrow comma.token second.name second.arrow closing.token scrutinee.used first.expression second.expression tokens t1 t2 t3 t4 t5 t6 rest word.whole scrutinee.whole opening.whole first.whole comma.whole second.whole closing.whole;
+      }
   takes_match t1 t2 t3 t4 t5 t6 on true a1 false a2 result word scrutinee opening first comma second closing is =
-      record { used = match_tokens word.token scrutinee.used opening.token first.name first.arrow first.expression comma.token second.name second.arrow second.expression closing.token;
+      record {
+        used = match_tokens word.token scrutinee.used opening.token first.name first.arrow first.expression comma.token second.name second.arrow second.expression closing.token;
         are = true_first fits word.is scrutinee.are opening.is first.is_name first.is_arrow first.is_expression comma.is second.is_name second.is_arrow second.is_expression closing.is refl is;
-        whole = match_whole word.token opening.token first.name first.arrow comma.token second.name second.arrow closing.token scrutinee.used first.expression second.expression tokens t1 t2 t3 t4 t5 t6 rest word.whole scrutinee.whole opening.whole first.whole comma.whole second.whole closing.whole }
+        whole = match_whole word.token opening.token first.name first.arrow comma.token second.name second.arrow closing.token scrutinee.used first.expression second.expression tokens t1 t2 t3 t4 t5 t6 rest word.whole scrutinee.whole opening.whole first.whole comma.whole second.whole closing.whole;
+      }
   takes_match t1 t2 t3 t4 t5 t6 on false a1 false a2 result word scrutinee opening first comma second closing is = absurd is
   takes_match t1 t2 t3 t4 t5 t6 on true a1 true a2 result word scrutinee opening first comma second closing is = absurd is

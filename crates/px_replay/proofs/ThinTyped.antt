@@ -116,11 +116,11 @@ declared_at : (n : ℕ) (ds : List ThinDef) (k : ℕ) (o : Declared) → slice_g
 declared_at n [] k o e = cc
 declared_at n (d ∷ ds) k o e =
     ⊎_elim (λ here. let found = at_map (λ (p : Prop). declared.Property n p) d.props k o here in
-        record { place = 0; def = d; index = k; property = found.0; at = refl; has = found.1; is = found.2 ∙ ap (λ m. declared.Property m found.0) (sym (add-zero n)) })
-      (λ there. let found = declared_at (n + 1) ds there.0 o there.1 in
-        let same : n + 1 + found.place ≡ n + suc found.place = omega arith in
-        record { place = suc found.place; def = found.def; index = found.index; property = found.property; at = found.at; has = found.has; is = found.is ∙ ap (λ m. declared.Property m found.property) same })
-      (at_append (map (λ (p : Prop). declared.Property n p) d.props) (declared_from (n + 1) ds) k o e)
+    record { place = 0; def = d; index = k; property = found.0; at = refl; has = found.1; is = found.2 ∙ ap (λ m. declared.Property m found.0) (sym (add-zero n)) })
+    (λ there. let found = declared_at (n + 1) ds there.0 o there.1 in
+    let same : n + 1 + found.place ≡ n + suc found.place = omega arith in
+    record { place = suc found.place; def = found.def; index = found.index; property = found.property; at = found.at; has = found.has; is = found.is ∙ ap (λ m. declared.Property m found.property) same })
+    (at_append (map (λ (p : Prop). declared.Property n p) d.props) (declared_from (n + 1) ds) k o e)
 
 -- each definition was written
 written_at : {text : List ℕ} {tokens : List Token} {ds : List ThinDef} → AreThinDefs text tokens ds → (n : ℕ) (d : ThinDef) → slice_get ds n ≡ Some d → (used : List Token) × IsThinDef text used d

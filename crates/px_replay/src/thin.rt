@@ -8,6 +8,8 @@ mod front;
 mod name_table;
 mod parameters;
 mod properties;
+#[cfg(test)]
+mod tests;
 
 use draft::{finish, read_defs};
 use px_lexer::{LexEnd, tokens};

@@ -40,7 +40,10 @@ pub(super) fn read_term<'t>(
     };
     match first.kind {
         TokenKind::Lower => read_variable(text, names, nesting, tokens),
-        TokenKind::Upper => read_truth(alloc, text, names, nesting, tokens),
+        TokenKind::Upper => {
+            let (truth, rest) = truth_at(text, tokens)?;
+            Ok((truth_term(alloc, truth), rest))
+        }
         TokenKind::Key(Key::KMatch) => read_match(alloc, text, names, nesting, tokens),
         _ => Err(ThinEnd::NotThin),
     }
@@ -59,22 +62,6 @@ fn read_variable<'t>(
     let (name, rest) = lower(text, tokens)?;
     let number = names.number(name)?;
     Ok((Term::Free(number), rest))
-}
-
-/// The constructor at the front as an expression, and the tokens after it.
-fn read_truth<'t>(
-    alloc: Global,
-    text: &[u8],
-    names: &NameTable,
-    nesting: u32,
-    tokens: &'t [Token],
-) -> Result<(Term, &'t [Token]), ThinEnd>
-    requires { nesting ≤ NESTING }
-    ensures { IfOk result (λ found. Takes (λ used. IsThinTerm text.now names.now nesting used found.0) tokens.now found.1.now) }
-{
-    let _names = names;
-    let (truth, rest) = truth_at(text, tokens)?;
-    Ok((truth_term(alloc, truth), rest))
 }
 
 /// The match at the front, and the tokens after it.

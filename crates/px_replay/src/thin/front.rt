@@ -53,7 +53,10 @@ fn text_of_token<'a>(text: &'a [u8], token: &Token) -> Result<&'a str, ThinEnd>
 }
 
 /// The name that begins with a small letter at the front, and the tokens after it. `NotThin` where there is none.
-pub(super) fn lower<'a, 't>(text: &'a [u8], tokens: &'t [Token]) -> Result<(&'a str, &'t [Token]), ThinEnd>
+pub(super) fn lower<'a, 't>(
+    text: &'a [u8],
+    tokens: &'t [Token],
+) -> Result<(&'a str, &'t [Token]), ThinEnd>
     ensures { IfOk result (λ found. BeginsWith (IsLower text.now found.0.now) tokens.now found.1.now) }
 {
     let (first, rest) = first_of(tokens)?;
@@ -65,7 +68,10 @@ pub(super) fn lower<'a, 't>(text: &'a [u8], tokens: &'t [Token]) -> Result<(&'a 
 }
 
 /// The name that begins with a capital letter at the front, and the tokens after it. `NotThin` where there is none.
-pub(super) fn upper<'a, 't>(text: &'a [u8], tokens: &'t [Token]) -> Result<(&'a str, &'t [Token]), ThinEnd>
+pub(super) fn upper<'a, 't>(
+    text: &'a [u8],
+    tokens: &'t [Token],
+) -> Result<(&'a str, &'t [Token]), ThinEnd>
     ensures { IfOk result (λ found. BeginsWith (IsUpper text.now found.0.now) tokens.now found.1.now) }
 {
     let (first, rest) = first_of(tokens)?;
@@ -77,10 +83,7 @@ pub(super) fn upper<'a, 't>(text: &'a [u8], tokens: &'t [Token]) -> Result<(&'a 
 }
 
 /// The tokens after `:` and `Bool`. `NotThin` where the first two are others.
-pub(super) fn after_bool_type<'t>(
-    text: &[u8],
-    tokens: &'t [Token],
-) -> Result<&'t [Token], ThinEnd>
+pub(super) fn after_bool_type<'t>(text: &[u8], tokens: &'t [Token]) -> Result<&'t [Token], ThinEnd>
     ensures { IfOk result (λ rest. BeginsWithBoolType text.now tokens.now rest.now) }
 {
     let rest = after_mark(tokens, Mark::Colon)?;
