@@ -10,4 +10,3 @@ all_one_more P xs i x within is before here = All-more P xs i x within before (s
 -- all elements
 pub all_whole : {X : Type 0} (P : X → Type 0) (xs : List X) (i : ℕ) → length xs ≤ i → All P (take i xs) → All P xs
 all_whole P xs i past all = subst (All P) (take_all i xs past) all
-

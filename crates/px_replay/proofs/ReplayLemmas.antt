@@ -117,7 +117,7 @@ goes_on_below P n text rest later so_far one =
 -- all obligations were replayed, and nothing is left
 pub all_replayed : (P : Program) (text rest : List ℕ) → ReplaysBelow P (length P.declared) text rest → rest ≡ [] → IsDerivationText P text
 all_replayed P text rest whole none = record {
-    trees = whole.trees;
-    derivation = record { count = whole.count; each = whole.each };
-    spelled = whole.lines ∙ (ap (λ (bytes : List ℕ). lines_of (rows_from 0 whole.trees) ++ bytes) none ∙ append-nil (lines_of (rows_from 0 whole.trees)));
-  }
+  trees = whole.trees;
+  derivation = record { count = whole.count; each = whole.each };
+  spelled = whole.lines ∙ (ap (λ (bytes : List ℕ). lines_of (rows_from 0 whole.trees) ++ bytes) none ∙ append-nil (lines_of (rows_from 0 whole.trees)));
+}

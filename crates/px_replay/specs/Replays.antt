@@ -17,12 +17,12 @@ use Rattle.px_terms.specs.Spelling.{line_of, lines_of, rows_from}
 -- the sequent with a term put in for a variable, which is no longer live
 abbrev pub put_case : Sequent → ℕ → Term → Sequent
 put_case s v by = record {
-    context = record { tparams = s.context.tparams; funs = s.context.funs; vars = slice_set s.context.vars v None };
-    frame = frame_put v by s.frame;
-    facts = equations_put v by s.facts;
-    alternatives = equations_put v by s.alternatives;
-    next = s.next;
-  }
+  context = record { tparams = s.context.tparams; funs = s.context.funs; vars = slice_set s.context.vars v None };
+  frame = frame_put v by s.frame;
+  facts = equations_put v by s.facts;
+  alternatives = equations_put v by s.alternatives;
+  next = s.next;
+}
 
 -- The sides of an alternative are one term.
 pub record SidesAreOne (s : Sequent) (at : ℕ) : Type 0 where

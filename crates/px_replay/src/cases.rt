@@ -8,16 +8,14 @@ ghost use Rattle.px_terms.specs.Sequents.{IsWithinLimits, frame_put};
 ghost use Rattle.px_terms.specs.Derivations.{Opens, case_of, cases_from};
 ghost use Rattle.px_replay.specs.Replays.{put_case};
 
-use std::alloc::Global;
-
+use crate::replay::ReplayEnd;
+use crate::small::is_within_limits;
 use px_terms::{
     ConDef, Context, Frame, NoMemory, Present, Program, Sequent, Term, Ty, copy_fn_types, copy_ty,
     copy_tys, put, put_equations,
 };
 use sqlite_items::{Items, at};
-
-use crate::replay::ReplayEnd;
-use crate::small::is_within_limits;
+use std::alloc::Global;
 
 /// The children of the cases of a variable: a sequent for each constructor of its datatype, in order.
 /// Rejected where the variable is not live, its type is no datatype, a constructor has fields (as yet), or a
@@ -43,7 +41,14 @@ pub(crate) fn cases(
         return Err(ReplayEnd::Rejected);
     };
     let constructors = declaration.cons.as_slice();
-    cases_of(alloc, sequent, variable, *datatype, args.as_slice(), constructors)
+    cases_of(
+        alloc,
+        sequent,
+        variable,
+        *datatype,
+        args.as_slice(),
+        constructors,
+    )
 }
 
 /// A sequent for each of these constructors, numbered from 0.
@@ -97,12 +102,7 @@ fn case(
 }
 
 /// The sequent with a term put in for a variable, which is no longer live.
-fn with_put(
-    alloc: Global,
-    sequent: &Sequent,
-    variable: u32,
-    by: &Term,
-) -> Result<Sequent, NoMemory>
+fn with_put(alloc: Global, sequent: &Sequent, variable: u32, by: &Term) -> Result<Sequent, NoMemory>
     ensures { IfOk result (λ child. child ≡ put_case sequent.now variable by.now) }
 {
     Ok(Sequent {

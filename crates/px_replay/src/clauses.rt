@@ -8,15 +8,13 @@ ghost use Rattle.px_terms.specs.Sequents.{first_sequent};
 ghost use Rattle.px_terms.specs.Typing.{live};
 ghost use Rattle.px_replay.specs.Own.{variables_and, plain_call, plain_clause};
 
-use std::alloc::Global;
-
+use crate::replay::ReplayEnd;
 use px_terms::{
     Clause, Context, Declared, Equation, EquationList, Frame, Fun, Head, NoMemory, Program, Prop,
     Sequent, Term, Ty, copy_ty, copy_tys, same_ty,
 };
 use sqlite_items::{Items, at};
-
-use crate::replay::ReplayEnd;
+use std::alloc::Global;
 
 /// The clause of a declared obligation. Rejected where it has none (as yet, of a lemma and of a property
 /// other than commutativity and idempotence too).

@@ -5,15 +5,13 @@ ghost use Rattle.px_terms.specs.Sequents.{IsWithinLimits};
 ghost use Rattle.px_terms.specs.Spelling.{IsDerivationText, line_of};
 ghost use Rattle.px_replay.specs.Replays.{HasReplayed, ReplaysRow, ReplaysObligation};
 
-use std::alloc::{AllocError, Global};
-
-use px_terms::{Declared, NoMemory, Program, Row, Sequent, stack_is_tree};
-use sqlite_items::Items;
-
 use crate::clauses::{clause_of, open_obligation};
 use crate::lines::{RowEnd, read_row};
 use crate::rows::open_sequent;
 use crate::small::is_within_limits;
+use px_terms::{Declared, NoMemory, Program, Row, Sequent, stack_is_tree};
+use sqlite_items::Items;
+use std::alloc::{AllocError, Global};
 
 /// Why a text was not accepted.
 #[derive(Clone, Copy, Debug, PartialEq, Eq)]

@@ -5,14 +5,12 @@ ghost use Rattle.px_terms.specs.Sequents.{IsWithinLimits};
 ghost use Rattle.px_terms.specs.Derivations.{Opens};
 ghost use Rattle.px_replay.specs.Replays.{SidesAreOne, StepsSide, Opened};
 
-use std::alloc::Global;
-
-use px_terms::{Kind, NoMemory, Path, Program, Row, Sequent, Side, Target, Term, same_term};
-use sqlite_items::{Items, at};
-
 use crate::cases::cases;
 use crate::replay::ReplayEnd;
 use crate::steps::stepped;
+use px_terms::{Kind, NoMemory, Path, Program, Row, Sequent, Side, Target, Term, same_term};
+use sqlite_items::{Items, at};
+use std::alloc::Global;
 
 /// Applies a row to a sequent of obligation `number`, and puts its children on the stack, the first on top.
 /// Rejected where the row does not apply.
@@ -104,7 +102,11 @@ fn step(
     ensures opens { IfOk result (λ child. Opens program.now number sequent (Row.Step target path.now kind) (child ∷ [])) }
     ensures small { IfOk result IsWithinLimits }
 {
-    let Target::Alternative { number: place, side } = target else {
+    let Target::Alternative {
+        number: place,
+        side,
+    } = target
+    else {
         return Err(ReplayEnd::Rejected);
     };
     let whole = step_side(alloc, program, &sequent, place, side, path, kind)?;
@@ -134,10 +136,7 @@ fn step_side(
 }
 
 /// Moves the sequents onto the stack, the first on top.
-fn push_reversed(
-    stack: &mut Items<Sequent>,
-    mut children: Items<Sequent>,
-) -> Result<(), NoMemory>
+fn push_reversed(stack: &mut Items<Sequent>, mut children: Items<Sequent>) -> Result<(), NoMemory>
     ensures { OnOk result (stack.new ≡ stack.old ++ reverse children) }
 {
     while let Some(child) = children.pop() {

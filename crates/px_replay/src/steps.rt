@@ -5,16 +5,14 @@ ghost use Rattle.px_terms.specs.declared.term.Term.{out-Term};
 ghost use Rattle.px_terms.specs.declared.clause.Equation.{Equation};
 ghost use Rattle.px_terms.specs.Steps.{Turns, Step};
 
-use std::alloc::Global;
-
+use crate::replay::ReplayEnd;
+use crate::small::is_small;
 use px_terms::{
     Head, Kind, Path, Program, Sigma, Term, at_path, copy, copy_funs, copy_terms, copy_tys,
     instance, replace_at,
 };
 use sqlite_items::at;
-
-use crate::replay::ReplayEnd;
-use crate::small::is_small;
+use std::alloc::Global;
 
 /// The term that a step of this kind at this path makes of a side. Rejected where there is no such step,
 /// or where its result is over the limits of a sequent.

@@ -17,6 +17,7 @@ use Rattle.px_terms.specs.Programs.{constructor_at}
 mutual
   -- a type over this many type parameters: each datatype is declared and has as many arguments as it takes
   pub data IsTypeLayer (P : Program) (tparams : ℕ) : Ty-F Ty → Type 0 where
+    word : IsTypeLayer P tparams Ty-F.Word
     var : {n : ℕ} → n < tparams → IsTypeLayer P tparams (Ty-F.Var n)
     con : {d : ℕ} {args : List Ty} {D : DataDef} → slice_get P.datatypes d ≡ Some D → length args ≡ D.tparams → AreTypes P tparams args → IsTypeLayer P tparams (Ty-F.Con d args)
 

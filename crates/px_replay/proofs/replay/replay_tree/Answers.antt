@@ -8,9 +8,9 @@ use Rattle.px_replay.proofs.replay.replay_tree.Goals as goal
 
 pub loop-sequent-preserved : goal.loop-sequent-preserved
 loop-sequent-preserved c = record {
-    so_far = goes_on_replay c.args.program.now c.args.number c.args.first c.loop-sequent.stack c.pop.new.self c.replay_row.new.stack c.in-Some.sequent c.args.text.now c.loop-sequent.rest.now c.in_ok-rest.rest.now c.in-Some.ensures c.loop-sequent.invariant.so_far c.in_ok-rest.ensures;
-    small = stack_stays_small c.args.program.now c.args.number c.in-Some.sequent c.pop.new.self c.replay_row.new.stack c.loop-sequent.rest.now c.in_ok-rest.rest.now (All-pop IsWithinLimits c.loop-sequent.stack c.pop.new.self (Some c.in-Some.sequent) c.in-Some.ensures c.loop-sequent.invariant.small).0 c.in_ok-rest.ensures;
-  }
+  so_far = goes_on_replay c.args.program.now c.args.number c.args.first c.loop-sequent.stack c.pop.new.self c.replay_row.new.stack c.in-Some.sequent c.args.text.now c.loop-sequent.rest.now c.in_ok-rest.rest.now c.in-Some.ensures c.loop-sequent.invariant.so_far c.in_ok-rest.ensures;
+  small = stack_stays_small c.args.program.now c.args.number c.in-Some.sequent c.pop.new.self c.replay_row.new.stack c.loop-sequent.rest.now c.in_ok-rest.rest.now (All-pop IsWithinLimits c.loop-sequent.stack c.pop.new.self (Some c.in-Some.sequent) c.in-Some.ensures c.loop-sequent.invariant.small).0 c.in_ok-rest.ensures;
+}
 
 pub loop-sequent-init : goal.loop-sequent-init
 loop-sequent-init c =
