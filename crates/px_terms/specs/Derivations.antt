@@ -53,6 +53,7 @@ mutual
   pub data Node : Type 0 where
     node : (row : Row) (children : Nodes) → Node
 
+  -- several trees, one for each child in order
   pub data Nodes : Type 0 where
     no_node : Nodes
     more_nodes : (first : Node) (others : Nodes) → Nodes

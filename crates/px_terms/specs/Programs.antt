@@ -14,10 +14,11 @@ use Rattle.px_terms.specs.declared.program.Program.{Program}
 abbrev pub bool_type : Ty
 bool_type = type.Con 0 []
 
--- the terms `False` and `True`
+-- the constructor `False`, as a term
 abbrev pub false_term : Term
 false_term = term.Con 0 0 [] []
 
+-- the other constructor of `Bool`, as a term
 abbrev pub true_term : Term
 true_term = term.Con 0 1 [] []
 

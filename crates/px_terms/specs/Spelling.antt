@@ -28,6 +28,7 @@ abbrev pub path_word : List ℕ → List ℕ
 path_word [] = codes "/"
 path_word (n ∷ path) = flat_map (λ (i : ℕ). codes "/" ++ decimal i) (n ∷ path)
 
+-- what a step does, in words
 abbrev pub kind_words : Kind → List ℕ
 kind_words kind.Unfold = codes "unfold"
 kind_words kind.Select = codes "select"

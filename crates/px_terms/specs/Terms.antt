@@ -21,6 +21,7 @@ term_size_step (Term-F.Match on d types arms) = 1 + (on + (tys_size types + sum 
 abbrev pub term_size : Term → ℕ
 term_size = fold-Term ℕ term_size_step
 
+-- the nodes of several terms
 abbrev pub terms_size : List Term → ℕ
 terms_size terms = sum (map term_size terms)
 
@@ -37,6 +38,7 @@ term_depth_step (Term-F.Match on d types arms) = 1 + max on (max (tys_depth type
 abbrev pub term_depth : Term → ℕ
 term_depth = fold-Term ℕ term_depth_step
 
+-- the depth of the deepest of several terms
 abbrev pub terms_depth : List Term → ℕ
 terms_depth terms = largest (map term_depth terms)
 
@@ -49,6 +51,7 @@ children_of (Term-F.Con d k types fields) = fields
 children_of (Term-F.Call f funs args) = args
 children_of (Term-F.Match on d types arms) = on ∷ []
 
+-- the children of a term
 abbrev pub children : Term → List Term
 children t = children_of (out-Term t)
 
@@ -66,6 +69,7 @@ with_child_of (Term-F.Con d k types fields) t n by = Con d k types (slice_set fi
 with_child_of (Term-F.Call f funs args) t n by = Call f funs (slice_set args n by)
 with_child_of (Term-F.Match on d types arms) t n by = Match by d types arms
 
+-- the term with another child at a number; as it is where it has no child there
 abbrev pub with_child : Term → ℕ → Term → Term
 with_child t n by = with_child_of (out-Term t) t n by
 

@@ -23,6 +23,7 @@ ty_size_step (Ty-F.Con d args) = 1 + sum args
 abbrev pub ty_size : Ty → ℕ
 ty_size = fold-Ty ℕ ty_size_step
 
+-- the nodes of several types
 abbrev pub tys_size : List Ty → ℕ
 tys_size types = sum (map ty_size types)
 
@@ -36,6 +37,7 @@ ty_depth_step (Ty-F.Con d args) = 1 + largest args
 abbrev pub ty_depth : Ty → ℕ
 ty_depth = fold-Ty ℕ ty_depth_step
 
+-- the depth of the deepest of several types
 abbrev pub tys_depth : List Ty → ℕ
 tys_depth types = largest (map ty_depth types)
 
@@ -43,6 +45,7 @@ tys_depth types = largest (map ty_depth types)
 abbrev pub fun_size : Fun → ℕ
 fun_size f = 1 + tys_size f.types
 
+-- a function argument is one level above its types
 abbrev pub fun_depth : Fun → ℕ
 fun_depth f = 1 + tys_depth f.types
 
@@ -56,6 +59,7 @@ ty_instance_step types (Ty-F.Con d args) = Con d args
 abbrev pub ty_instance : List Ty → Ty → Ty
 ty_instance types = fold-Ty Ty (ty_instance_step types)
 
+-- the same of each type of a list
 abbrev pub tys_instance : List Ty → List Ty → List Ty
 tys_instance types = map (ty_instance types)
 

@@ -21,10 +21,12 @@ mutual
     var : {n : ℕ} → n < tparams → IsTypeLayer P tparams (Ty-F.Var n)
     con : {d : ℕ} {args : List Ty} {D : DataDef} → slice_get P.datatypes d ≡ Some D → length args ≡ D.tparams → AreTypes P tparams args → IsTypeLayer P tparams (Ty-F.Con d args)
 
+  -- each is a type
   pub data AreTypes (P : Program) (tparams : ℕ) : List Ty → Type 0 where
     none : AreTypes P tparams []
     more : {T : Ty} {types : List Ty} → IsTypeLayer P tparams (out-Ty T) → AreTypes P tparams types → AreTypes P tparams (T ∷ types)
 
+-- a type over this many type parameters
 abbrev pub IsType : Program → ℕ → Ty → Type 0
 IsType P tparams T = IsTypeLayer P tparams (out-Ty T)
 
