@@ -15,3 +15,5 @@ pub mod Steps
 pub mod Derivations
 pub mod Spelling
 pub mod Laws
+pub mod Plain
+pub mod Validity
