@@ -1,11 +1,14 @@
 -- What the definitions say of every text, and of the tables.
-use Rattle.std.specs.Prelude.{◌≡◌, ℕ, List, Contains}
+use Rattle.std.specs.Prelude.{◌≡◌, ℕ, List, [], ◌∷◌, Contains, codes}
 use Rattle.std.specs.Char.{is_ascii_lowercase}
 use Rattle.px_terms.specs.declared.types.Prop.{Prop}
+use Rattle.px_terms.specs.declared.types.Prop.TheVariants as prop
 use Rattle.px_lexer.specs.Forms.{IsName, words, marks}
 use Rattle.px_lexer.specs.Tokens.{AreTokens, IsFault}
 use Rattle.px_lexer.specs.declared.token.Key.{Key}
+use Rattle.px_lexer.specs.declared.token.Key.TheVariants as key
 use Rattle.px_lexer.specs.declared.token.Mark.{Mark}
+use Rattle.px_lexer.specs.declared.token.Mark.TheVariants as mark
 use Rattle.px_lexer.specs.declared.token.Token.{Token}
 use Rattle.px_lexer.specs.declared.token.TokenKind.{TokenKind}
 use Rattle.px_lexer.specs.declared.token.TokenKind.TheVariants as kinds
@@ -38,3 +41,8 @@ pub record OneSpelling : Type 0 where
   pub words_apart : HasOneKindEach words
   pub marks_apart : HasOneKindEach marks
   pub names : (word : List ℕ) (kind : TokenKind) → Contains words (word, kind) → IsName is_ascii_lowercase word
+
+-- the tables, row by row: the text of each reserved word, property word and mark
+pub record Letters : Type 0 where
+  pub words_are : words ≡ (codes "data", kinds.Key key.KData) ∷ (codes "def", kinds.Key key.KDef) ∷ (codes "claim", kinds.Key key.KClaim) ∷ (codes "lemma", kinds.Key key.KLemma) ∷ (codes "replica", kinds.Key key.KReplica) ∷ (codes "from", kinds.Key key.KFrom) ∷ (codes "by", kinds.Key key.KBy) ∷ (codes "match", kinds.Key key.KMatch) ∷ (codes "fn", kinds.Key key.KFn) ∷ (codes "with", kinds.Key key.KWith) ∷ (codes "comm", kinds.Property prop.Comm) ∷ (codes "assoc", kinds.Property prop.Assoc) ∷ (codes "idem", kinds.Property prop.Idem) ∷ (codes "sel", kinds.Property prop.Sel) ∷ (codes "refl", kinds.Property prop.Refl) ∷ (codes "irrefl", kinds.Property prop.Irrefl) ∷ (codes "sym", kinds.Property prop.Sym) ∷ (codes "antisym", kinds.Property prop.Antisym) ∷ (codes "asym", kinds.Property prop.Asym) ∷ (codes "trans", kinds.Property prop.Trans) ∷ (codes "conn", kinds.Property prop.Conn) ∷ []
+  pub marks_are : marks ≡ (codes "->", kinds.Mark mark.Arrow) ∷ (codes "=>", kinds.Mark mark.FatArrow) ∷ (codes "{", kinds.Mark mark.BraceL) ∷ (codes "}", kinds.Mark mark.BraceR) ∷ (codes "(", kinds.Mark mark.ParenL) ∷ (codes ")", kinds.Mark mark.ParenR) ∷ (codes "<", kinds.Mark mark.Less) ∷ (codes ">", kinds.Mark mark.Greater) ∷ (codes ",", kinds.Mark mark.Comma) ∷ (codes ":", kinds.Mark mark.Colon) ∷ (codes "=", kinds.Mark mark.Equal) ∷ []

@@ -1,4 +1,4 @@
-ghost use Rattle.px_lexer.specs.Laws.{NeverBoth, OneFault, OneList, OneSpelling};
+ghost use Rattle.px_lexer.specs.Laws.{Letters, NeverBoth, OneFault, OneList, OneSpelling};
 
 /// A text has at most one list of tokens.
 pub fn one_list()
@@ -18,4 +18,9 @@ pub fn never_both()
 /// Each reserved word, property word and mark has one text in the tables, and no text stands there twice.
 pub fn one_spelling()
     ensures { OneSpelling }
+{}
+
+/// The tables have these texts, row by row.
+pub fn letters()
+    ensures { Letters }
 {}

@@ -8,7 +8,7 @@ mod scan;
 mod table;
 mod token;
 
-pub use laws::{never_both, one_fault, one_list, one_spelling};
+pub use laws::{letters, never_both, one_fault, one_list, one_spelling};
 pub use scan::{LexEnd, tokens};
 pub use token::{Key, Mark, Token, TokenKind};
 
