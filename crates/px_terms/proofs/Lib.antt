@@ -1,5 +1,7 @@
+pub mod Forward
 pub mod Largest
 pub mod Openings
 pub mod Replacing
 pub mod Shapes
 pub mod Stacks
+pub mod Turning
