@@ -3,3 +3,4 @@ pub mod Openings
 pub mod Replacing
 pub mod Shapes
 pub mod Stacks
+pub mod Unique
