@@ -5,3 +5,4 @@ pub mod Replacing
 pub mod Shapes
 pub mod Stacks
 pub mod Turning
+pub mod Unique

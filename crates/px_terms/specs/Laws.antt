@@ -1,8 +1,13 @@
--- What the definitions of derivations say of every program.
+-- What the definitions of meanings and of derivations say of every program.
 use Rattle.std.specs.Prelude.{◌≡◌, ℕ, List, []}
+use Rattle.px_terms.specs.declared.types.Ty.{Ty}
+use Rattle.px_terms.specs.declared.types.Fun.{Fun}
+use Rattle.px_terms.specs.declared.term.Term.{Term}
+use Rattle.px_terms.specs.declared.term.Value.{Value}
 use Rattle.px_terms.specs.declared.program.Program.{Program}
 use Rattle.px_terms.specs.declared.sequent.Sequent.{Sequent}
 use Rattle.px_terms.specs.declared.row.Row.{Row}
+use Rattle.px_terms.specs.Meaning.{Means}
 use Rattle.px_terms.specs.Derivations.{Opens, Leads, Nodes, DeriveAll, rows_of_all, StackIsTree}
 
 -- a row leaves at most one list of children of a sequent
@@ -21,3 +26,7 @@ StacksAreTrees = (P : Program) (n : ℕ) (stack : List Sequent) (rows : List Row
 -- the same of one sequent and its tree
 abbrev pub EachStackIsTree : Type 0
 EachStackIsTree = (P : Program) (n : ℕ) (s : Sequent) (rows : List Row) → StackIsTree P n s rows
+
+-- a term has at most one value and one number of calls
+abbrev pub OneMeaning : Type 0
+OneMeaning = (P : Program) (types : List Ty) (funs : List Fun) (rho : List Value) (t : Term) (v w : Value) (c e : ℕ) → Means P types funs rho t v c → Means P types funs rho t w e → (v ≡ w) × (c ≡ e)

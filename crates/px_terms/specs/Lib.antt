@@ -17,3 +17,4 @@ pub mod Spelling
 pub mod Laws
 pub mod Plain
 pub mod Validity
+pub mod TypedSequents

@@ -34,7 +34,7 @@ pub use depths::{depth, depth_of_terms, depth_of_ty, depth_of_tys};
 pub use instances::{
     instance, instance_of_fun, instance_of_funs, instance_of_terms, instance_of_ty, instance_of_tys,
 };
-pub use laws::{one_opening, stack_is_tree, stack_is_trees};
+pub use laws::{one_meaning, one_opening, stack_is_tree, stack_is_trees};
 pub use memory::NoMemory;
 pub use path::Path;
 pub use places::{at_path, child, replace_at};
