@@ -6,6 +6,7 @@ pub mod ReplayLemmas
 pub mod Results
 pub mod RowLemmas
 pub mod StepLemmas
+pub mod ThinPlain
 pub mod ThinNames
 pub mod ThinTerms
 pub mod ThinLists

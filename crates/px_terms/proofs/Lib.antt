@@ -1,4 +1,5 @@
 pub mod Forward
+pub mod Keeping
 pub mod Largest
 pub mod Openings
 pub mod Replacing

@@ -37,38 +37,38 @@ one_of_each types funs (f ∷ fs) (g ∷ gs) (h ∷ hs) p q =
     ap (λ x. x ∷ gs) first ∙ ap (λ xs. h ∷ xs) others
 
 -- What a constructor's meaning rests on.
-record OfCon (P : Program) (types : List Ty) (funs : List Fun) (rho inner : List Value) (d k : ℕ) (fields : List Term) (v : Value) (c : ℕ) : Type 0 where
-  vs : List Value
-  all : MeanAll P types funs rho inner fields vs c
-  is : v ≡ value.Con d k vs
+pub record OfCon (P : Program) (types : List Ty) (funs : List Fun) (rho inner : List Value) (d k : ℕ) (fields : List Term) (v : Value) (c : ℕ) : Type 0 where
+  pub vs : List Value
+  pub all : MeanAll P types funs rho inner fields vs c
+  pub is : v ≡ value.Con d k vs
 
 -- What a match's meaning rests on.
-record OfMatch (P : Program) (types : List Ty) (funs : List Fun) (rho inner : List Value) (on : Term) (arms : List Term) (v : Value) (c : ℕ) : Type 0 where
-  u : Value
-  arm : Term
-  vs : List Value
-  a : ℕ
-  b : ℕ
-  on_means : MeansOf P types funs rho inner (out-Term on) u a
-  chooses : chosen arms (out-Value u) ≡ Some (arm, vs)
-  arm_means : MeansOf P types funs rho (bind vs inner) (out-Term arm) v b
-  total : a + b ≡ c
+pub record OfMatch (P : Program) (types : List Ty) (funs : List Fun) (rho inner : List Value) (on : Term) (arms : List Term) (v : Value) (c : ℕ) : Type 0 where
+  pub u : Value
+  pub arm : Term
+  pub vs : List Value
+  pub a : ℕ
+  pub b : ℕ
+  pub on_means : MeansOf P types funs rho inner (out-Term on) u a
+  pub chooses : chosen arms (out-Value u) ≡ Some (arm, vs)
+  pub arm_means : MeansOf P types funs rho (bind vs inner) (out-Term arm) v b
+  pub total : a + b ≡ c
 
 -- What a call's meaning rests on.
-record OfCall (P : Program) (types : List Ty) (funs : List Fun) (rho inner : List Value) (f : Fun) (fs : List Fun) (args : List Term) (v : Value) (c : ℕ) : Type 0 where
-  g : Fun
-  gs : List Fun
-  vs : List Value
-  a : ℕ
-  b : ℕ
-  all : MeanAll P types funs rho inner args vs a
-  fun_means : FunMeans types funs f g
-  funs_mean : FunsMean types funs fs gs
-  gives : Gives P g gs vs v b
-  total : a + b ≡ c
+pub record OfCall (P : Program) (types : List Ty) (funs : List Fun) (rho inner : List Value) (f : Fun) (fs : List Fun) (args : List Term) (v : Value) (c : ℕ) : Type 0 where
+  pub g : Fun
+  pub gs : List Fun
+  pub vs : List Value
+  pub a : ℕ
+  pub b : ℕ
+  pub all : MeanAll P types funs rho inner args vs a
+  pub fun_means : FunMeans types funs f g
+  pub funs_mean : FunsMean types funs fs gs
+  pub gives : Gives P g gs vs v b
+  pub total : a + b ≡ c
 
 -- what a meaning rests on, by the layer
-abbrev RestsOn : Program → List Ty → List Fun → List Value → List Value → Term-F Term → Value → ℕ → Type 0
+abbrev pub RestsOn : Program → List Ty → List Fun → List Value → List Value → Term-F Term → Value → ℕ → Type 0
 RestsOn P types funs rho inner (Term-F.Free n) v c = (slice_get rho n ≡ Some v) × (c ≡ 0)
 RestsOn P types funs rho inner (Term-F.Bound n) v c = (slice_get inner n ≡ Some v) × (c ≡ 0)
 RestsOn P types funs rho inner (Term-F.Lit w) v c = (v ≡ value.Lit w) × (c ≡ 0)
@@ -76,7 +76,7 @@ RestsOn P types funs rho inner (Term-F.Con d k ts fields) v c = OfCon P types fu
 RestsOn P types funs rho inner (Term-F.Match on d ts arms) v c = OfMatch P types funs rho inner on arms v c
 RestsOn P types funs rho inner (Term-F.Call f fs args) v c = OfCall P types funs rho inner f fs args v c
 
-rests_on : (P : Program) (types : List Ty) (funs : List Fun) (rho inner : List Value) (y : Term-F Term) (v : Value) (c : ℕ) → MeansOf P types funs rho inner y v c → RestsOn P types funs rho inner y v c
+pub rests_on : (P : Program) (types : List Ty) (funs : List Fun) (rho inner : List Value) (y : Term-F Term) (v : Value) (c : ℕ) → MeansOf P types funs rho inner y v c → RestsOn P types funs rho inner y v c
 rests_on P types funs rho inner _ v _ (free is) = (is, refl)
 rests_on P types funs rho inner _ v _ (bound is) = (is, refl)
 rests_on P types funs rho inner _ v _ (lit is) = (is, refl)
@@ -85,53 +85,53 @@ rests_on P types funs rho inner _ v c (choose {u = u} {arm = arm} {vs = vs} {a =
 rests_on P types funs rho inner _ v c (call {g = g} {gs = gs} {vs = vs} {a = a} {b = b} all fun_means funs_mean gives total) = record { g = g; gs = gs; vs = vs; a = a; b = b; all = all; fun_means = fun_means; funs_mean = funs_mean; gives = gives; total = total }
 
 -- What the meaning of a first term and others rests on.
-record OfMore (P : Program) (types : List Ty) (funs : List Fun) (rho inner : List Value) (t : Term) (ts : List Term) (all : List Value) (c : ℕ) : Type 0 where
-  v : Value
-  vs : List Value
-  a : ℕ
-  b : ℕ
-  means : MeansOf P types funs rho inner (out-Term t) v a
-  mean : MeanAll P types funs rho inner ts vs b
-  total : a + b ≡ c
-  is : all ≡ v ∷ vs
+pub record OfMore (P : Program) (types : List Ty) (funs : List Fun) (rho inner : List Value) (t : Term) (ts : List Term) (all : List Value) (c : ℕ) : Type 0 where
+  pub v : Value
+  pub vs : List Value
+  pub a : ℕ
+  pub b : ℕ
+  pub means : MeansOf P types funs rho inner (out-Term t) v a
+  pub mean : MeanAll P types funs rho inner ts vs b
+  pub total : a + b ≡ c
+  pub is : all ≡ v ∷ vs
 
 -- what the meaning of terms rests on
-abbrev AllRestOn : Program → List Ty → List Fun → List Value → List Value → List Term → List Value → ℕ → Type 0
+abbrev pub AllRestOn : Program → List Ty → List Fun → List Value → List Value → List Term → List Value → ℕ → Type 0
 AllRestOn P types funs rho inner [] vs c = (vs ≡ []) × (c ≡ 0)
 AllRestOn P types funs rho inner (t ∷ ts) vs c = OfMore P types funs rho inner t ts vs c
 
-all_rest_on : (P : Program) (types : List Ty) (funs : List Fun) (rho inner : List Value) (ts : List Term) (vs : List Value) (c : ℕ) → MeanAll P types funs rho inner ts vs c → AllRestOn P types funs rho inner ts vs c
+pub all_rest_on : (P : Program) (types : List Ty) (funs : List Fun) (rho inner : List Value) (ts : List Term) (vs : List Value) (c : ℕ) → MeanAll P types funs rho inner ts vs c → AllRestOn P types funs rho inner ts vs c
 all_rest_on P types funs rho inner _ _ _ none = (refl, refl)
 all_rest_on P types funs rho inner _ _ c (more {v = v} {vs = vs} {a = a} {b = b} means mean total) = record { v = v; vs = vs; a = a; b = b; means = means; mean = mean; total = total; is = refl }
 
 -- What a definition's value rests on.
-record OfDefined (P : Program) (n : ℕ) (types : List Ty) (funs : List Fun) (vs : List Value) (v : Value) (c : ℕ) : Type 0 where
-  body : Term
-  b : ℕ
-  found : body_of P n ≡ Some body
-  means : MeansOf P types funs vs [] (out-Term body) v b
-  total : b + 1 ≡ c
+pub record OfDefined (P : Program) (n : ℕ) (types : List Ty) (funs : List Fun) (vs : List Value) (v : Value) (c : ℕ) : Type 0 where
+  pub body : Term
+  pub b : ℕ
+  pub found : body_of P n ≡ Some body
+  pub means : MeansOf P types funs vs [] (out-Term body) v b
+  pub total : b + 1 ≡ c
 
 -- What a comparison's value rests on.
-record OfWords (test : ℕ → ℕ → Value) (vs : List Value) (v : Value) (c : ℕ) : Type 0 where
-  a : Value
-  b : Value
-  x : ℕ
-  y : ℕ
-  left : out-Value a ≡ Value-F.Lit x
-  right : out-Value b ≡ Value-F.Lit y
-  is : v ≡ test x y
-  two : vs ≡ a ∷ b ∷ []
-  none_more : c ≡ 0
+pub record OfWords (test : ℕ → ℕ → Value) (vs : List Value) (v : Value) (c : ℕ) : Type 0 where
+  pub a : Value
+  pub b : Value
+  pub x : ℕ
+  pub y : ℕ
+  pub left : out-Value a ≡ Value-F.Lit x
+  pub right : out-Value b ≡ Value-F.Lit y
+  pub is : v ≡ test x y
+  pub two : vs ≡ a ∷ b ∷ []
+  pub none_more : c ≡ 0
 
 -- what a function's value rests on, by its head
-abbrev GiftRestsOn : Program → Head → List Ty → List Fun → List Value → Value → ℕ → Type 0
+abbrev pub GiftRestsOn : Program → Head → List Ty → List Fun → List Value → Value → ℕ → Type 0
 GiftRestsOn P (Def n) types funs vs v c = OfDefined P n types funs vs v c
 GiftRestsOn P Wle types funs vs v c = OfWords (λ x y. truth (nat_le x y)) vs v c
 GiftRestsOn P Weq types funs vs v c = OfWords (λ x y. truth (x == y)) vs v c
 GiftRestsOn P (FnVar n) types funs vs v c = ⊥
 
-gift_rests_on : (P : Program) (g : Fun) (gs : List Fun) (vs : List Value) (v : Value) (c : ℕ) → Gives P g gs vs v c → GiftRestsOn P g.head g.types gs vs v c
+pub gift_rests_on : (P : Program) (g : Fun) (gs : List Fun) (vs : List Value) (v : Value) (c : ℕ) → Gives P g gs vs v c → GiftRestsOn P g.head g.types gs vs v c
 gift_rests_on P _ gs vs v c (defined {body = body} {b = b} found means total) = record { body = body; b = b; found = found; means = means; total = total }
 gift_rests_on P _ gs _ v _ (at_most {a = a} {b = b} {x = x} {y = y} left right is) = record { a = a; b = b; x = x; y = y; left = left; right = right; is = is; two = refl; none_more = refl }
 gift_rests_on P _ gs _ v _ (equal {a = a} {b = b} {x = x} {y = y} left right is) = record { a = a; b = b; x = x; y = y; left = left; right = right; is = is; two = refl; none_more = refl }
