@@ -1,4 +1,5 @@
 ghost use Rattle.std.specs.Prelude.{◌≡◌, ◌≤◌, IfOk, length};
+ghost use Rattle.px_terms.specs.Plain.{IsPlainProgram};
 ghost use Rattle.px_replay.specs.Thin.{IsThinSource};
 
 mod definition;
@@ -60,7 +61,8 @@ impl From<LexEnd> for ThinEnd {
 /// memory; its time is linear in the text.
 pub fn read_thin(alloc: Global, text: &[u8]) -> Result<Program, ThinEnd>
     requires { length text.now ≤ PROGRAM_BYTES }
-    ensures { IfOk result (λ program. IsThinSource text.now program) }
+    ensures thin { IfOk result (λ program. IsThinSource text.now program) }
+    ensures plain { IfOk result IsPlainProgram }
 {
     let read = tokens(alloc, text)?;
     let draft = read_defs(alloc, text, read.as_slice())?;

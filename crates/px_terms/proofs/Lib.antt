@@ -7,3 +7,4 @@ pub mod Shapes
 pub mod Stacks
 pub mod Turning
 pub mod Unique
+pub mod Truths

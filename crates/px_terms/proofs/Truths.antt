@@ -24,10 +24,6 @@ use Rattle.px_terms.proofs.Forward.{put_keeps}
 use Rattle.px_terms.proofs.Turning.{turns_keep}
 
 module _ (Q : Program) (types : List Ty) (funs : List Fun) (rho : List Value) where
-  -- the term has some value
-  pub abbrev HasSomeValue : Term → Type 0
-  HasSomeValue t = (v : Value) × (c : ℕ) × Means Q types funs rho t v c
-
   -- both sides have some value
   pub record HasSides (e : Equation) : Type 0 where
     pub left : (v : Value) × (c : ℕ) × Means Q types funs rho e.left v c

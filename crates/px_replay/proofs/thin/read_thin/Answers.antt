@@ -1,7 +1,8 @@
 use Rattle.std.proofs.Common.{sym, subst, ap, ◌∙◌, List, arith, length, ◌≡◌, map, ◌∷◌, codes, ℕ}
 use Rattle.px_terms.specs.Obligations.{IsTyped}
 use Rattle.px_lexer.specs.declared.token.Token.{Token}
-use Rattle.px_replay.specs.Thin.{AreDistinct, AreThinDefs}
+use Rattle.px_replay.specs.Thin.{AreDistinct, AreThinDefs, IsThinSource}
+use Rattle.px_replay.proofs.ThinPlain.{plain_source}
 use Rattle.px_replay.proofs.ThinPrograms.{few_tokens}
 use Rattle.px_replay.proofs.ThinTyped.{typed_program}
 use Rattle.px_replay.proofs.thin.read_thin.Goals as goal
@@ -14,7 +15,7 @@ returns c =
     let read = c.in_ok-draft.ensures in
     let are = subst (λ (ts : List Token). AreThinDefs c.args.text.now ts read.ds) c.as_slice.ensures read.are in
     let numbered = c.in_ok-program.ensures read.ds read.draft_of in
-    record {
+    let source : IsThinSource c.args.text.now c.in_ok-program.program = record {
       tokens = c.in_ok-read.read;
       defs = read.ds;
       are_tokens = c.in_ok-read.ensures.ok;
@@ -22,4 +23,5 @@ returns c =
       distinct = subst (λ (names : List (List ℕ)). AreDistinct names) read.draft_of.taken read.draft_of.distinct;
       numbered = numbered;
       typed = subst (λ program. IsTyped program) (sym numbered) (typed_program c.args.text.now c.in_ok-read.read read.ds are);
-    }
+    } in
+    record { thin = source; plain = plain_source c.args.text.now c.in_ok-program.program source }
