@@ -1,3 +1,4 @@
+pub mod BoolTerms
 pub mod Largest
 pub mod Openings
 pub mod Replacing

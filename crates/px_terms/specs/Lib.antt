@@ -7,6 +7,7 @@ pub mod Programs
 pub mod Values
 pub mod Meaning
 pub mod Typing
+pub mod TypedSequents
 pub mod Clauses
 pub mod Holding
 pub mod Obligations
