@@ -1,4 +1,5 @@
 pub mod BoolTerms
+pub mod Existence
 pub mod Largest
 pub mod Openings
 pub mod Replacing
