@@ -1,3 +1,5 @@
+pub mod BoolTerms
+pub mod Existence
 pub mod Forward
 pub mod Keeping
 pub mod Largest
@@ -5,6 +7,6 @@ pub mod Openings
 pub mod Replacing
 pub mod Shapes
 pub mod Stacks
+pub mod Truths
 pub mod Turning
 pub mod Unique
-pub mod Truths

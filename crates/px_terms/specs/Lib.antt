@@ -7,6 +7,7 @@ pub mod Programs
 pub mod Values
 pub mod Meaning
 pub mod Typing
+pub mod TypedSequents
 pub mod Clauses
 pub mod Holding
 pub mod Obligations
@@ -17,4 +18,3 @@ pub mod Spelling
 pub mod Laws
 pub mod Plain
 pub mod Validity
-pub mod TypedSequents
