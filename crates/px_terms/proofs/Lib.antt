@@ -1,3 +1,4 @@
+pub mod InstanceSizes
 pub mod Largest
 pub mod Openings
 pub mod Replacing
