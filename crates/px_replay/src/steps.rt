@@ -7,9 +7,10 @@ ghost use Rattle.px_terms.specs.Steps.{Turns, Step};
 
 use crate::replay::ReplayEnd;
 use crate::small::is_small;
+use px_terms::limits::SEQUENT_NODES;
 use px_terms::{
     Head, Kind, Path, Program, Sigma, Term, at_path, copy, copy_funs, copy_terms, copy_tys,
-    instance, replace_at,
+    instance, replace_at, size, size_of_instance,
 };
 use sqlite_items::at;
 use std::alloc::Global;
@@ -49,7 +50,8 @@ fn turned(alloc: Global, program: &Program, part: &Term, kind: Kind) -> Result<T
     }
 }
 
-/// The body of the definition that the part calls, with the types, functions and arguments put in.
+/// The body of the definition that the part calls, with the types, functions and arguments put in. Rejected,
+/// before it is built, where it has more nodes than a term of a sequent may have.
 fn unfolded(alloc: Global, program: &Program, part: &Term) -> Result<Term, ReplayEnd>
     ensures { IfOk result (λ t. (facts : List Equation) → Turns program.now facts Kind.Unfold (out-Term part.now) t) }
 {
@@ -62,11 +64,17 @@ fn unfolded(alloc: Global, program: &Program, part: &Term) -> Result<Term, Repla
     let Some(def) = at(program.defs.as_slice(), number as usize) else {
         return Err(ReplayEnd::Rejected);
     };
+    if size(&def.body) > SEQUENT_NODES {
+        return Err(ReplayEnd::Rejected);
+    }
     let sigma = Sigma {
         types: copy_tys(alloc, fun.types.as_slice())?,
         funs: copy_funs(alloc, funs.as_slice())?,
         terms: copy_terms(alloc, args.as_slice())?,
     };
+    if size_of_instance(&def.body, &sigma) > SEQUENT_NODES {
+        return Err(ReplayEnd::Rejected);
+    }
     Ok(instance(alloc, &def.body, &sigma)?)
 }
 

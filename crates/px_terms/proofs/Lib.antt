@@ -1,6 +1,7 @@
 pub mod BoolTerms
 pub mod Existence
 pub mod Forward
+pub mod InstanceSizes
 pub mod Keeping
 pub mod Largest
 pub mod Openings

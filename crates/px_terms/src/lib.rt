@@ -7,6 +7,7 @@
 mod clause;
 mod copying;
 mod depths;
+mod instance_sizes;
 mod instances;
 mod laws;
 pub mod limits;
@@ -31,6 +32,7 @@ pub use copying::{
     copy_terms, copy_ty, copy_tys,
 };
 pub use depths::{depth, depth_of_terms, depth_of_ty, depth_of_tys};
+pub use instance_sizes::size_of_instance;
 pub use instances::{
     instance, instance_of_fun, instance_of_funs, instance_of_terms, instance_of_ty, instance_of_tys,
 };

@@ -1,7 +1,7 @@
 use crate::{
     Equation, EquationList, FnType, Fun, Head, NoMemory, Path, PropSet, Side, Sigma, Term, Ty,
     at_path, copy, copy_equations, copy_fn_type, depth, depth_of_ty, instance, put, put_equations,
-    replace_at, same_term, same_ty, size, size_of_ty,
+    replace_at, same_term, same_ty, size, size_of_instance, size_of_ty,
 };
 use sqlite_items::{Boxed, Items};
 use std::alloc::Global;
@@ -140,11 +140,12 @@ fn copy_is_same(alloc: Global, t: &Term) -> Result<bool, NoMemory> {
     Ok(same_term(&made, t))
 }
 
-/// Whether the term's instance is that term.
+/// Whether the term's instance is that term, and was counted so before it was made.
 fn instance_is(alloc: Global, t: &Term, want: &Term) -> Result<bool, NoMemory> {
     let sigma = first_of_each(alloc)?;
+    let counted = size_of_instance(t, &sigma);
     let made = instance(alloc, t, &sigma)?;
-    Ok(same_term(&made, want))
+    Ok(same_term(&made, want) && counted == size(want))
 }
 
 /// Whether the term with a literal put in for the first variable is that term.
