@@ -4,3 +4,4 @@ pub mod Seen
 pub mod Ends
 pub mod Answers
 pub mod Laws
+pub mod Headline

@@ -3,11 +3,13 @@ ghost use Rattle.std.specs.Option.{ForSome};
 ghost use Rattle.px_world.specs.Faults.{Rose};
 ghost use Rattle.px_drive.specs.Lines.{line_of, files_of};
 ghost use Rattle.px_drive.specs.Answers.{IsAnswer};
+ghost use Rattle.px_drive.specs.Headline.{Headline};
 
 use crate::chain::run_line;
 use crate::line::read_line;
 use crate::messages::report;
 use crate::{End, Outcome};
+use px_replay::accepted_is_true;
 use px_world::{Files, Sink};
 use std::alloc::Global;
 
@@ -26,7 +28,51 @@ use std::alloc::Global;
 ///
 /// It takes memory for the line, the texts and the work, and none for what it prints. Which bytes a name
 /// has and which names may be opened is unchanged.
+///
+/// Where it is done, every declared property of the program read holds in the language's meaning, for all values.
 pub fn drive<F: Files, O: Sink, E: Sink>(
+    alloc: Global,
+    words: &Vec<String>,
+    files: &mut F,
+    out: &mut O,
+    err: &mut E,
+) -> Outcome
+    requires { ForSome (line_of (map string_bytes words.now.items))
+        (λ line. All (λ name. IsTrue (F.may_open files.old name)) (files_of line)) }
+    ensures answer { IsAnswer (map string_bytes words.now.items) (record {
+      bytes = F.bytes_of files.old;
+      opened = F.is_open files.new;
+      left = F.rest files.new;
+      before = F.faults files.old;
+      after = F.faults files.new;
+    }) (record {
+      old = O.written out.old;
+      new = O.written out.new;
+      before = O.faults out.old;
+      after = O.faults out.new;
+    }) (record {
+      old = E.written err.old;
+      new = E.written err.new;
+      before = E.faults err.old;
+      after = E.faults err.new;
+    }) result }
+    ensures headline { result.end ≡ End.Done → Headline (F.bytes_of files.old) result.line }
+    ensures read_fault { result.end ≡ End.ReadFault → Rose (F.faults files.old) (F.faults files.new) }
+    ensures write_fault { result.end ≡ End.WriteFault
+        → Rose (O.faults out.old) (O.faults out.new) ⊎ Rose (E.faults err.old) (E.faults err.new) }
+
+    ensures texts { F.bytes_of files.new ≡ F.bytes_of files.old }
+    ensures names { F.may_open files.new ≡ F.may_open files.old }
+    ensures files_later { F.faults files.old ≤ F.faults files.new }
+    ensures out_later { O.faults out.old ≤ O.faults out.new }
+    ensures err_later { E.faults err.old ≤ E.faults err.new }
+{
+    accepted_is_true();
+    answer(alloc, words, files, out, err)
+}
+
+/// Runs the command, as `drive` says.
+fn answer<F: Files, O: Sink, E: Sink>(
     alloc: Global,
     words: &Vec<String>,
     files: &mut F,

@@ -4,3 +4,4 @@ pub mod Replays
 pub mod Thin
 pub mod ThinFronts
 pub mod ThinDrafts
+pub mod Truth

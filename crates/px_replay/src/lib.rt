@@ -6,6 +6,7 @@
 mod cases;
 mod clauses;
 mod fields;
+mod laws;
 mod lines;
 mod replay;
 mod rows;
@@ -13,5 +14,6 @@ mod small;
 mod steps;
 mod thin;
 
+pub use laws::accepted_is_true;
 pub use replay::{Accepted, ReplayEnd, replay_text};
 pub use thin::{ThinEnd, read_thin};

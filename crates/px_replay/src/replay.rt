@@ -1,6 +1,8 @@
 //! The replay of a text: obligation by obligation, and row by row over a stack of open sequents.
 
 ghost use Rattle.std.specs.Prelude.{◌≡◌, ◌++◌, ◌∷◌, ◌↔◌, [], IfOk, IsTrue, Some, length, slice_get};
+ghost use Rattle.px_terms.specs.Obligations.{AllHold};
+ghost use Rattle.px_terms.specs.Plain.{IsPlainProgram};
 ghost use Rattle.px_terms.specs.Sequents.{IsWithinLimits};
 ghost use Rattle.px_terms.specs.Spelling.{IsDerivationText, line_of};
 ghost use Rattle.px_replay.specs.Replays.{HasReplayed, ReplaysRow, ReplaysObligation};
@@ -9,7 +11,9 @@ use crate::clauses::{clause_of, open_obligation};
 use crate::lines::{RowEnd, read_row};
 use crate::rows::open_sequent;
 use crate::small::is_within_limits;
-use px_terms::{Declared, NoMemory, Program, Row, Sequent, stack_is_tree};
+use px_terms::{
+    Declared, NoMemory, Program, Row, Sequent, derivations_are_sound, stack_is_tree,
+};
 use sqlite_items::Items;
 use std::alloc::{AllocError, Global};
 
@@ -55,7 +59,10 @@ pub struct Accepted {
 pub fn replay_text(alloc: Global, program: &Program, text: &[u8]) -> Result<Accepted, ReplayEnd>
     ensures accepted { IfOk result (λ _. IsDerivationText program.now text.now) }
     ensures count { IfOk result (λ accepted. accepted.obligations ≡ length program.now.declared) }
+    // What is accepted is true, where the program is one over truth values.
+    ensures holds { IfOk result (λ _. IsPlainProgram program.now → AllHold program.now) }
 {
+    derivations_are_sound();
     let declared = program.declared.as_slice();
     let Ok(obligations) = u32::try_from(declared.len()) else {
         return Err(ReplayEnd::Rejected);

@@ -11,3 +11,4 @@ pub mod Stacks
 pub mod Truths
 pub mod Turning
 pub mod Unique
+pub mod RowsAreSound

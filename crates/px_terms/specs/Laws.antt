@@ -8,7 +8,9 @@ use Rattle.px_terms.specs.declared.program.Program.{Program}
 use Rattle.px_terms.specs.declared.sequent.Sequent.{Sequent}
 use Rattle.px_terms.specs.declared.row.Row.{Row}
 use Rattle.px_terms.specs.Meaning.{Means}
-use Rattle.px_terms.specs.Derivations.{Opens, Leads, Nodes, DeriveAll, rows_of_all, StackIsTree}
+use Rattle.px_terms.specs.Obligations.{AllHold}
+use Rattle.px_terms.specs.Plain.{IsPlainProgram}
+use Rattle.px_terms.specs.Derivations.{Opens, Leads, Nodes, DeriveAll, rows_of_all, StackIsTree, Tree, IsDerivation}
 
 -- a row leaves at most one list of children of a sequent
 abbrev pub OneOpening : Type 0
@@ -30,3 +32,7 @@ EachStackIsTree = (P : Program) (n : ℕ) (s : Sequent) (rows : List Row) → St
 -- a term has at most one value and one number of calls
 abbrev pub OneMeaning : Type 0
 OneMeaning = (P : Program) (types : List Ty) (funs : List Fun) (rho : List Value) (t : Term) (v w : Value) (c e : ℕ) → Means P types funs rho t v c → Means P types funs rho t w e → (v ≡ w) × (c ≡ e)
+
+-- where trees derive the obligations of a plain program, each of them holds
+abbrev pub DerivationsAreSound : Type 0
+DerivationsAreSound = (P : Program) → IsPlainProgram P → (trees : List Tree) → IsDerivation P trees → AllHold P

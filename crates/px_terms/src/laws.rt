@@ -1,4 +1,4 @@
-ghost use Rattle.px_terms.specs.Laws.{OneOpening, StacksAreTrees, EachStackIsTree, OneMeaning};
+ghost use Rattle.px_terms.specs.Laws.{DerivationsAreSound, OneOpening, StacksAreTrees, EachStackIsTree, OneMeaning};
 
 /// A row leaves at most one list of children of a sequent, so the rows say which tree they are of.
 pub fn one_opening()
@@ -21,3 +21,10 @@ pub fn stack_is_tree()
 pub fn one_meaning()
     ensures { OneMeaning }
 {}
+
+/// Where trees derive the obligations of a plain program, each obligation holds: a clause that has a derivation
+/// is true in the language's meaning, for all values of its variables.
+pub fn derivations_are_sound()
+    ensures { DerivationsAreSound }
+{
+}

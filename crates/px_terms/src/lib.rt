@@ -36,7 +36,7 @@ pub use instance_sizes::size_of_instance;
 pub use instances::{
     instance, instance_of_fun, instance_of_funs, instance_of_terms, instance_of_ty, instance_of_tys,
 };
-pub use laws::{one_meaning, one_opening, stack_is_tree, stack_is_trees};
+pub use laws::{derivations_are_sound, one_meaning, one_opening, stack_is_tree, stack_is_trees};
 pub use memory::NoMemory;
 pub use path::Path;
 pub use places::{at_path, child, replace_at};
