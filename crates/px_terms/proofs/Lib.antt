@@ -6,3 +6,4 @@ pub mod Preservation
 pub mod Replacing
 pub mod Shapes
 pub mod Stacks
+pub mod TypedRows

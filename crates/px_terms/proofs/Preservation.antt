@@ -118,14 +118,14 @@ module _ (P : Program) (vars others : List (Option Ty)) (calls there : Type 0) (
     all_mapped _ no_bool = no_bool
     all_mapped _ (more_bools {t = t} {ts = ts} first rest) = more_bools (mapped (out-Term t) first t (sym (roll-out-Term t))) (all_mapped ts rest)
 
-  term_mapped : (t : Term) → IsBoolLayer P vars calls (out-Term t) → IsBoolLayer P others there (out-Term (g t))
+  pub term_mapped : (t : Term) → IsBoolLayer P vars calls (out-Term t) → IsBoolLayer P others there (out-Term (g t))
   term_mapped t is_bool = mapped (out-Term t) is_bool t (sym (roll-out-Term t))
 
 module _ (P : Program) (vars : List (Option Ty)) (calls : Type 0) where
-  same_bool : (t u : Term) → t ≡ u → IsBoolLayer P vars calls (out-Term t) → IsBoolLayer P vars calls (out-Term u)
+  pub same_bool : (t u : Term) → t ≡ u → IsBoolLayer P vars calls (out-Term t) → IsBoolLayer P vars calls (out-Term u)
   same_bool t u e is_bool = subst (λ t. IsBoolLayer P vars calls (out-Term t)) e is_bool
 
-  bool_at : (ts : List Term) (n : ℕ) (t : Term) → AreBoolTerms P vars calls ts → slice_get ts n ≡ Some t → IsBoolLayer P vars calls (out-Term t)
+  pub bool_at : (ts : List Term) (n : ℕ) (t : Term) → AreBoolTerms P vars calls ts → slice_get ts n ≡ Some t → IsBoolLayer P vars calls (out-Term t)
   bool_at _ n t no_bool at = absurd (nothing_is_some t None refl at)
   bool_at _ zero t (more_bools {t = u} first others) at = same_bool u t (some_is u t (Some u) refl at) first
   bool_at _ (suc n) t (more_bools {ts = ts} first others) at = bool_at ts n t others at
@@ -170,11 +170,11 @@ module _ (P : Program) (vars : List (Option Ty)) (calls : Type 0) where
   replaced_bool (n ∷ path) t by u is_bool by_bool at = whole_through (slice_get (children t) n) t n path by u (λ child found at. whole_mapped t n (replaced child path by) u is_bool (λ w w_at. replaced_bool path child by w (bool_at (children t) n child (children_bool (out-Term t) is_bool) found) by_bool w_at) at) at
 
 -- arguments alone are put in
-abbrev arguments : List Term → Sigma
+abbrev pub arguments : List Term → Sigma
 arguments args = record { types = []; funs = []; terms = args }
 
 -- an instance of a definition's body, with arguments over `Bool`
-instance_bool : (P : Program) → IsPlainProgram P → (vars : List (Option Ty)) (n : ℕ) (D : definition.Def) (args : List Term) → slice_get P.defs n ≡ Some D → AreBoolTerms P vars (Unit {0}) args → length args ≡ length D.params → IsBoolLayer P vars (Unit {0}) (out-Term (term_instance (arguments args) D.body))
+pub instance_bool : (P : Program) → IsPlainProgram P → (vars : List (Option Ty)) (n : ℕ) (D : definition.Def) (args : List Term) → slice_get P.defs n ≡ Some D → AreBoolTerms P vars (Unit {0}) args → length args ≡ length D.params → IsBoolLayer P vars (Unit {0}) (out-Term (term_instance (arguments args) D.body))
 instance_bool P plain vars n D args found args_bool long = term_mapped P (live D.params) vars ⊥ (Unit {0}) (λ wrong. absurd wrong) (term_instance (arguments args)) at_free at_con at_match at_call D.body (body_bool P plain n D found)
   where
     at_free : (m : ℕ) → slice_get (live D.params) m ≡ Some (Some bool_type) → IsBoolLayer P vars (Unit {0}) (out-Term (term_instance (arguments args) (Free m)))
