@@ -86,7 +86,7 @@ no_terms : (P : Program) (context : Context) (inner : List Ty) (ts : List Term) 
 no_terms P context inner _ _ e none = refl
 no_terms P context inner _ _ e (more {T = T} {types = types} first others) = let wrong : ⊥ = cc in absurd wrong
 
-abbrev AreFieldless : List ConDef → Type 0
+abbrev pub AreFieldless : List ConDef → Type 0
 AreFieldless [] = Unit {0}
 AreFieldless (c ∷ cs) = (c.fields ≡ []) × AreFieldless cs
 

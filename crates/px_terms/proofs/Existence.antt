@@ -248,7 +248,7 @@ give_truths P plain = record { each = λ n D vs found truths long. given n D vs 
         let v = valued P ⊥ (λ wrong. absurd wrong) [] [] vs (live D.params) fits (out-Term D.body) (body_bool P plain n D found) in
         record { k = v.k; small = v.small; count = v.count + 1; gives = defined (ap (λ o. option_map (λ (d : definition.Def). d.body) o) found) v.means refl }
 
-small_constructor : (P : Program) → P.datatypes ≡ bool_data ∷ [] → (k : ℕ) → k < 2 → constructor_at P 0 k ≡ Some (record { fields = [] })
+pub small_constructor : (P : Program) → P.datatypes ≡ bool_data ∷ [] → (k : ℕ) → k < 2 → constructor_at P 0 k ≡ Some (record { fields = [] })
 small_constructor P data_is zero small = ap (λ (datatypes : List DataDef). constructor_at (record P { datatypes = datatypes }) 0 0) data_is
 small_constructor P data_is (suc zero) small = ap (λ (datatypes : List DataDef). constructor_at (record P { datatypes = datatypes }) 0 1) data_is
 small_constructor P data_is (suc (suc k)) small = let wrong : ⊥ = omega (arith, small) in absurd wrong

@@ -5,10 +5,12 @@ pub mod InstanceSizes
 pub mod Keeping
 pub mod Largest
 pub mod Openings
+pub mod Preservation
 pub mod Replacing
+pub mod RowsAreSound
 pub mod Shapes
 pub mod Stacks
 pub mod Truths
 pub mod Turning
+pub mod TypedRows
 pub mod Unique
-pub mod RowsAreSound
