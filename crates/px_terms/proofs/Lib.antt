@@ -1,3 +1,4 @@
+pub mod FirstSequents
 pub mod Forward
 pub mod Largest
 pub mod Openings
