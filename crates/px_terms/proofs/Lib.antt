@@ -1,5 +1,6 @@
 pub mod BoolTerms
 pub mod Existence
+pub mod FirstSequents
 pub mod Forward
 pub mod InstanceSizes
 pub mod Keeping
