@@ -11,6 +11,7 @@ pub mod Replacing
 pub mod RowsAreSound
 pub mod Shapes
 pub mod Stacks
+pub mod TreesAreSound
 pub mod Truths
 pub mod Turning
 pub mod TypedRows

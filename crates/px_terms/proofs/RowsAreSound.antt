@@ -30,11 +30,8 @@ use Rattle.px_terms.specs.TypedSequents.{IsTypedEquation, IsTypedSequent, HasBoo
 use Rattle.px_terms.specs.Validity.{FitVariables, none, live, gone, PresentSizes, IsValidAt}
 use Rattle.px_terms.proofs.BoolTerms.{bool_datatype}
 use Rattle.px_terms.proofs.Existence.{has_value, bool_values}
+use Rattle.px_terms.proofs.TypedRows.{all_at}
 use Rattle.px_terms.proofs.Truths.{HasSides, some_at, some_set, one_side, step_back, all_put_on, some_put_back, sizes_put}
-
--- an element that is found has what all elements have
-all_at : {X : Type 0} (P : X → Type 0) (xs : List X) (k : ℕ) (x : X) → slice_get xs k ≡ Some x → All P xs → P x
-all_at P xs k x found all = subst P (get_or_from_slice_get xs k x x found) (All-get_or P xs k x (slice_get_within xs k x found) all)
 
 -- The value of a live variable.
 record ValueAt (Q : Program) (types : List Ty) (T : Ty) (rho : List Value) (variable : ℕ) : Type 0 where

@@ -113,7 +113,8 @@ pub record IsBoolSequent (P : Program) (s : Sequent) : Type 0 where
   pub typed : IsTypedSequent P s
   pub bools : HasBoolVariables s.context
 
-all_at : {A : Type 0} (Q : A → Type 0) (xs : List A) (j : ℕ) (x : A) → slice_get xs j ≡ Some x → All Q xs → Q x
+-- an element that is found has what all elements have
+pub all_at : {A : Type 0} (Q : A → Type 0) (xs : List A) (j : ℕ) (x : A) → slice_get xs j ≡ Some x → All Q xs → Q x
 all_at Q xs j x at all = subst Q (get_or_from_slice_get xs j x x at) (all j x (is_below xs j x at))
 
 side_stepped : (P : Program) → IsPlainProgram P → (context : Context) → HasBoolVariables context → (facts : List Equation) (e : Equation) (side : Side) (path : List ℕ) (kind : Kind) (t : Term) → IsTypedEquation P context e → Step P facts (side_of e side) path kind t → IsTypedEquation P context (with_side side e t)
