@@ -1,5 +1,6 @@
 -- The stack, the rows and the text, one row after the other.
-use Rattle.std.proofs.Common.{◌≡◌, ◌<◌, ◌≤◌, ◌+◌, ℕ, zero, suc, List, [], ◌∷◌, ◌++◌, length, reverse, slice_get, Some, None, All, refl, sym, ap, subst, ◌∙◌, append_assoc, append-nil, add-one, add-zero, zero-add, arith, length-append, IfOk}
+use Rattle.std.specs.Prelude.{◌==◌}
+use Rattle.std.proofs.Common.{◌≡◌, ◌<◌, ◌≤◌, ◌+◌, ℕ, zero, suc, true, eqb-true, List, [], ◌∷◌, ◌++◌, length, reverse, slice_get, Some, None, All, refl, sym, ap, subst, ◌∙◌, append_assoc, append-nil, add-one, add-zero, zero-add, arith, length-append, IfOk}
 use Rattle.std.proofs.lemmas.List.{reverse-append}
 use Rattle.std.proofs.lemmas.List.Elements.{All-nil, All-cons, All-head, All-tail, All-push, All-append}
 use Rattle.std.proofs.lemmas.Grind.{flat_map-append}
@@ -121,3 +122,8 @@ all_replayed P text rest whole none = record {
   derivation = record { count = whole.count; each = whole.each };
   spelled = whole.lines ∙ (ap (λ (bytes : List ℕ). lines_of (rows_from 0 whole.trees) ++ bytes) none ∙ append-nil (lines_of (rows_from 0 whole.trees)));
 }
+
+-- a text whose length is told to be 0 is empty
+pub nothing_left : (rest : List ℕ) → (length rest == 0) ≡ true → rest ≡ []
+nothing_left [] told = refl
+nothing_left (x ∷ rest) told = let e : suc (length rest) ≡ 0 = eqb-true (suc (length rest)) 0 told in absurd (omega (arith, e))

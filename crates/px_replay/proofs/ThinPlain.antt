@@ -35,8 +35,8 @@ plain_defs seen (suc n) d (AreThinDefs.more {d = one} first others e) found = pl
 -- the program of a text is plain
 pub plain_source : (text : List ℕ) (P : Program) → IsThinSource text P → IsPlainProgram P
 plain_source text P source = record {
-    typed = source.typed;
-    datatypes = ap (λ (p : Program). p.datatypes) source.numbered;
-    plain = λ n d found. plain_defs 0 n d source.are_defs (subst (λ (p : Program). slice_get p.defs n ≡ Some d) source.numbered found);
-    lemmas = ap (λ (p : Program). p.lemmas) source.numbered;
-  }
+  typed = source.typed;
+  datatypes = ap (λ (p : Program). p.datatypes) source.numbered;
+  plain = λ n d found. plain_defs 0 n d source.are_defs (subst (λ (p : Program). slice_get p.defs n ≡ Some d) source.numbered found);
+  lemmas = ap (λ (p : Program). p.lemmas) source.numbered;
+}

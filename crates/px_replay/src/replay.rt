@@ -11,9 +11,7 @@ use crate::clauses::{clause_of, open_obligation};
 use crate::lines::{RowEnd, read_row};
 use crate::rows::open_sequent;
 use crate::small::is_within_limits;
-use px_terms::{
-    Declared, NoMemory, Program, Row, Sequent, derivations_are_sound, stack_is_tree,
-};
+use px_terms::{Declared, NoMemory, Program, Row, Sequent, derivations_are_sound, stack_is_tree};
 use sqlite_items::Items;
 use std::alloc::{AllocError, Global};
 

@@ -263,13 +263,15 @@ IsTypedFirst P clause = IsTypedSequent P (first_sequent clause (record { entries
 
 equation_typed : (P : Program) (d : Def) (types : List Ty) (left right : Term) → Bools types → HasType P (record { tparams = d.tparams; funs = d.funs; vars = live types }) left bool_type → HasType P (record { tparams = d.tparams; funs = d.funs; vars = live types }) right bool_type → IsTypedFirst P (equation_clause d types left right)
 equation_typed P d types left right all left_typed right_typed =
-    let typed : IsTypedEquation P (record { tparams = d.tparams; funs = d.funs; vars = live types }) (record { left = left; right = right }) = record { T = bool_type; left = left_typed; right = right_typed } in
-    (record {
-      next = length_of_live types;
-      alternatives = All-cons (IsTypedEquation P (record { tparams = d.tparams; funs = d.funs; vars = live types })) (record { left = left; right = right }) [] typed (All-nil (IsTypedEquation P (record { tparams = d.tparams; funs = d.funs; vars = live types })));
-      facts = All-nil (IsTypedEquation P (record { tparams = d.tparams; funs = d.funs; vars = live types }));
-      present = All-nil (IsTypedPresent P (record { tparams = d.tparams; funs = d.funs; vars = live types }));
-    }, record { each = λ n T e. bool_variable types n T all e })
+    let typed : IsTypedEquation P (record { tparams = d.tparams; funs = d.funs; vars = live types }) (record { left = left; right = right }) = record { T = bool_type; left = left_typed; right = right_typed } in (
+      record {
+        next = length_of_live types;
+        alternatives = All-cons (IsTypedEquation P (record { tparams = d.tparams; funs = d.funs; vars = live types })) (record { left = left; right = right }) [] typed (All-nil (IsTypedEquation P (record { tparams = d.tparams; funs = d.funs; vars = live types })));
+        facts = All-nil (IsTypedEquation P (record { tparams = d.tparams; funs = d.funs; vars = live types }));
+        present = All-nil (IsTypedPresent P (record { tparams = d.tparams; funs = d.funs; vars = live types }));
+      },
+      record { each = λ n T e. bool_variable types n T all e },
+    )
 
 comm_typed : (P : Program) (n : ℕ) (d : Def) (s : Shape) → slice_get P.defs n ≡ Some d → IsPlainDef d → HasShape d s → IsTypedFirst P (comm_clause n d s)
 comm_typed P n d s found def shape =

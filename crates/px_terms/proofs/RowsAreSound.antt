@@ -75,11 +75,11 @@ module _ (Q : Program) (plain : IsPlainProgram Q) (types : List Ty) (funs : List
   -- a row whose children are valid has a valid sequent
   pub row_is_sound : (n : ℕ) (s : Sequent) (r : Row) (children : List Sequent) → IsTypedSequent Q s → HasBoolVariables s.context → Opens Q n s r children → ((i : ℕ) (child : Sequent) → slice_get children i ≡ Some child → IsValidAt Q types funs child total) → IsValidAt Q types funs s total
   row_is_sound n s _ _ typed bools (same {j = j} {e = e} found one) valid = record {
-      some = λ rho fit sizes facts. some_at Q types funs rho s.alternatives j e found (one_side Q types funs rho e one (sides_of s.context rho fit bools e (all_at (IsTypedEquation Q s.context) s.alternatives j e found typed.alternatives)));
-    }
+    some = λ rho fit sizes facts. some_at Q types funs rho s.alternatives j e found (one_side Q types funs rho e one (sides_of s.context rho fit bools e (all_at (IsTypedEquation Q s.context) s.alternatives j e found typed.alternatives)));
+  }
   row_is_sound n s _ _ typed bools (step {child = child} {j = j} {side = side} {path = path} {kind = kind} {e = e} {t = t} found one_step child_is small) valid = record {
-      some = λ rho fit sizes facts. some_set Q types funs rho s.alternatives j e _ found (step_back Q types funs rho plain s.facts e side path kind t one_step (sides_of s.context rho fit bools e (all_at (IsTypedEquation Q s.context) s.alternatives j e found typed.alternatives))) ((subst (λ (x : Sequent). IsValidAt Q types funs x total) child_is (valid 0 child refl)).some rho fit sizes facts);
-    }
+    some = λ rho fit sizes facts. some_set Q types funs rho s.alternatives j e _ found (step_back Q types funs rho plain s.facts e side path kind t one_step (sides_of s.context rho fit bools e (all_at (IsTypedEquation Q s.context) s.alternatives j e found typed.alternatives))) ((subst (λ (x : Sequent). IsValidAt Q types funs x total) child_is (valid 0 child refl)).some rho fit sizes facts);
+  }
   row_is_sound n s _ _ typed bools (case {v = v} {D = D} {children = children} d args found declared children_are small) valid =
       let datatype = bool_datatype Q plain.datatypes d D declared in
       let is_bool : type.Con d args ≡ bool_type = bools.each v (type.Con d args) found in
@@ -87,9 +87,9 @@ module _ (Q : Program) (plain : IsPlainProgram Q) (types : List Ty) (funs : List
       let two : children ≡ case_of s v d args 0 (record { fields = [] }) ∷ case_of s v d args 1 (record { fields = [] }) ∷ [] = children_are ∙ ap (λ (E : DataDef). cases_from s v d args 0 E.cons) datatype.is in
       record {
         some = λ rho fit sizes facts.
-          let there = fit_at Q types s.context.vars rho v (type.Con d args) fit found in
-          elim (bool_values Q plain there.u (subst (λ (T : Ty). IsIn Q T there.u) here there.fits)) [
-            inl is ↦ one_case s v d 0 args typed bools rho fit (there.at ∙ ap (λ (u : Value). Some u) (is ∙ ap (λ (m : ℕ). value.Con m 0 []) (sym datatype.number))) sizes facts (valid 0 (case_of s v d args 0 (record { fields = [] })) (ap (λ (cs : List Sequent). slice_get cs 0) two))
-          | inr is ↦ one_case s v d 1 args typed bools rho fit (there.at ∙ ap (λ (u : Value). Some u) (is ∙ ap (λ (m : ℕ). value.Con m 1 []) (sym datatype.number))) sizes facts (valid 1 (case_of s v d args 1 (record { fields = [] })) (ap (λ (cs : List Sequent). slice_get cs 1) two))
-          ];
+            let there = fit_at Q types s.context.vars rho v (type.Con d args) fit found in
+            elim (bool_values Q plain there.u (subst (λ (T : Ty). IsIn Q T there.u) here there.fits)) [
+              | inl is ↦ one_case s v d 0 args typed bools rho fit (there.at ∙ ap (λ (u : Value). Some u) (is ∙ ap (λ (m : ℕ). value.Con m 0 []) (sym datatype.number))) sizes facts (valid 0 (case_of s v d args 0 (record { fields = [] })) (ap (λ (cs : List Sequent). slice_get cs 0) two))
+              | inr is ↦ one_case s v d 1 args typed bools rho fit (there.at ∙ ap (λ (u : Value). Some u) (is ∙ ap (λ (m : ℕ). value.Con m 1 []) (sym datatype.number))) sizes facts (valid 1 (case_of s v d args 1 (record { fields = [] })) (ap (λ (cs : List Sequent). slice_get cs 1) two))
+            ];
       }

@@ -26,5 +26,4 @@ pub fn one_meaning()
 /// is true in the language's meaning, for all values of its variables.
 pub fn derivations_are_sound()
     ensures { DerivationsAreSound }
-{
-}
+{}
