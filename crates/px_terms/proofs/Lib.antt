@@ -1,4 +1,5 @@
 pub mod BoolTerms
+pub mod Examples
 pub mod Existence
 pub mod Forward
 pub mod InstanceSizes
