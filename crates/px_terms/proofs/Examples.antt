@@ -1,5 +1,5 @@
 -- Small programs: true properties hold, and false ones do not.
-use Rattle.std.proofs.Common.{◌≡◌, ◌⊎◌, inl, inr, ℕ, zero, suc, ◌+◌, ◌<◌, List, [], ◌∷◌, map, Bool, true, false, Option, Some, refl, sym, ap, ◌∙◌, slice_get, option_and_then, subst, arith}
+use Rattle.std.proofs.Common.{◌≡◌, ◌⊎◌, inl, inr, ℕ, zero, suc, ◌+◌, ◌<◌, List, [], ◌∷◌, ◌++◌, map, Bool, true, false, Option, Some, None, refl, sym, ap, ◌∙◌, slice_get, option_and_then, subst, arith}
 use Rattle.px_terms.specs.declared.types.Ty.{Ty, out-Ty}
 use Rattle.px_terms.specs.declared.types.Ty.TheOpen.{Ty-F}
 use Rattle.px_terms.specs.declared.types.Ty.TheVariants as type
@@ -18,6 +18,8 @@ use Rattle.px_terms.specs.declared.clause.Clause.{Clause}
 use Rattle.px_terms.specs.declared.program.Declared.TheVariants as declared
 use Rattle.px_terms.specs.declared.program.ConDef.{ConDef}
 use Rattle.px_terms.specs.declared.program.DataDef.{DataDef}
+use Rattle.px_terms.specs.declared.program.Declared.{Declared}
+use Rattle.px_terms.specs.declared.program.Def as definition
 use Rattle.px_terms.specs.declared.program.Program.{Program}
 use Rattle.px_terms.specs.Types.{ty_instance, tys_instance}
 use Rattle.px_terms.specs.TreeEquations.{ty_instance-Con}
@@ -26,16 +28,17 @@ use Rattle.px_terms.specs.Values.{IsInLayer, AreIn, IsIn}
 use Rattle.px_terms.specs.Values as values
 use Rattle.px_terms.specs.Meaning.{truth, chosen, MeansOf, MeanAll, Means, SameValue, free, con, choose, call, none, more, defined}
 use Rattle.px_terms.specs.Typing as typing
-use Rattle.px_terms.specs.Clauses.{own_call}
+use Rattle.px_terms.specs.Clauses.{own_call, Shape, IsClause, comm_clause, idem_clause}
 use Rattle.px_terms.specs.Clauses as clauses
 use Rattle.px_terms.specs.Holding.{IsTrueAt, SomeIsTrueAt, HoldsIn, Holds, here, later}
 use Rattle.px_terms.specs.Holding as holding
-use Rattle.px_terms.specs.Obligations.{IsObligation}
+use Rattle.px_terms.specs.Obligations.{IsObligation, IsDeclaredClause, AllHold}
 use Rattle.px_terms.specs.Obligations as obligations
 use Rattle.px_terms.specs.Validity as fitting
 use Rattle.px_terms.specs.Examples.{bool_function, bool_program, bool_shape, bool_comm, bool_idem, or_body, or_program, left_program, constant_program, false_is_true}
-use Rattle.px_terms.specs.ExampleLaws.{HasTwoTruths, BoolHasTwoValues, OrIsCommutative, OrIsIdempotent, LeftIsNotCommutative, ConstantIsNotIdempotent, FalseIsNotTrue}
+use Rattle.px_terms.specs.ExampleLaws.{ExamplesHoldOrFail, HasTwoTruths, BoolHasTwoValues, OrIsCommutative, OrIsIdempotent, LeftIsNotCommutative, ConstantIsNotIdempotent, FalseIsNotTrue}
 use Rattle.px_terms.proofs.Existence.{IsTruth, truth_value, truth_of}
+use Rattle.px_terms.proofs.BoolTerms.{some_is, nothing_is_some}
 use Rattle.px_terms.proofs.Unique.{unique}
 
 -- The value is `truth` of one of the two.
@@ -267,3 +270,64 @@ false_is_not_true Q valid =
     let some = valid.some [] fitting.none fitting.none tt in
     let same = only_one Q [] [] [] (record { left = false_term; right = true_term }) false_is_true.alternatives refl some in
     not_same (same_values Q [] [] [] false_term true_term (truth false) (truth true) 0 0 (constructor_means Q [] [] [] 0) (constructor_means Q [] [] [] 1) same)
+
+no_rest : (xs : List Ty) (last : Ty) → bool_type ∷ [] ≡ xs ++ last ∷ last ∷ [] → ⊥
+no_rest [] last e = let wrong : ⊥ = cc in wrong
+no_rest (x ∷ []) last e = let wrong : ⊥ = cc in wrong
+no_rest (x ∷ y ∷ xs) last e = let wrong : ⊥ = cc in wrong
+
+parts_are : (leading : List Ty) (last : Ty) → bool_type ∷ bool_type ∷ [] ≡ leading ++ last ∷ last ∷ [] → (leading ≡ []) × (last ≡ bool_type)
+parts_are [] last e = (refl, cc)
+parts_are (x ∷ xs) last e = let rest : bool_type ∷ [] ≡ xs ++ last ∷ last ∷ [] = cc in absurd (no_rest xs last rest)
+
+shape_is : (s : Shape) → bool_type ∷ bool_type ∷ [] ≡ s.leading ++ s.last ∷ s.last ∷ [] → s ≡ bool_shape
+shape_is s e =
+    let parts = parts_are s.leading s.last e in
+    ap (λ (leading : List Ty). record { leading = leading; last = s.last }) parts.0 ∙ ap (λ (last : Ty). record { leading = []; last = last }) parts.1
+
+module _ (body : Term) (props : List Prop) where
+  the_shape : (n : ℕ) (d : definition.Def) (s : Shape) → slice_get (bool_program body props).defs n ≡ Some d → d.params ≡ s.leading ++ s.last ∷ s.last ∷ [] → (n ≡ 0) × (d ≡ bool_function body) × (s ≡ bool_shape)
+  the_shape zero d s found shape =
+      let d_is : d ≡ bool_function body = some_is d (bool_function body) (Some d) refl (sym found) in
+      (refl, d_is, shape_is s (ap (λ (d : definition.Def). d.params) (sym d_is) ∙ shape))
+  the_shape (suc n) d s found shape = absurd (nothing_is_some d None refl found)
+
+  comm_is : (n : ℕ) (p : Prop) (clause : Clause) → p ≡ prop.Comm → IsClause (bool_program body props) n p clause → clause ≡ bool_comm body
+  comm_is n _ clause e (clauses.comm {d = d} found s shape is) =
+      let are = the_shape n d s found shape in
+      is ∙ ap (λ (n : ℕ). comm_clause n d s) are.0 ∙ ap (λ (d : definition.Def). comm_clause 0 d s) are.1 ∙ ap (λ (s : Shape). comm_clause 0 (bool_function body) s) are.2
+  comm_is n _ clause e (clauses.idem found s shape result is) = let wrong : ⊥ = cc in absurd wrong
+
+  idem_is : (n : ℕ) (p : Prop) (clause : Clause) → p ≡ prop.Idem → IsClause (bool_program body props) n p clause → clause ≡ bool_idem body
+  idem_is n _ clause e (clauses.idem {d = d} found s shape result is) =
+      let are = the_shape n d s found shape in
+      is ∙ ap (λ (n : ℕ). idem_clause n d s) are.0 ∙ ap (λ (d : definition.Def). idem_clause 0 d s) are.1 ∙ ap (λ (s : Shape). idem_clause 0 (bool_function body) s) are.2
+  idem_is n _ clause e (clauses.comm found s shape is) = let wrong : ⊥ = cc in absurd wrong
+
+  -- the declared property of a number has only one clause
+  declared_comm : (which : Declared) (clause : Clause) → which ≡ declared.Property 0 prop.Comm → IsDeclaredClause (bool_program body props) which clause → clause ≡ bool_comm body
+  declared_comm _ clause e (obligations.of_property {d = n} {p = p} is) = let same : p ≡ prop.Comm = cc in comm_is n p clause same is
+  declared_comm _ clause e (obligations.of_lemma found is) = let wrong : ⊥ = cc in absurd wrong
+
+  declared_idem : (which : Declared) (clause : Clause) → which ≡ declared.Property 0 prop.Idem → IsDeclaredClause (bool_program body props) which clause → clause ≡ bool_idem body
+  declared_idem _ clause e (obligations.of_property {d = n} {p = p} is) = let same : p ≡ prop.Idem = cc in idem_is n p clause same is
+  declared_idem _ clause e (obligations.of_lemma found is) = let wrong : ⊥ = cc in absurd wrong
+
+same_holds : (P : Program) (clause other : Clause) → clause ≡ other → Holds P other → Holds P clause
+same_holds P clause other e holds = subst (λ (clause : Clause). Holds P clause) (sym e) holds
+
+or_obligation_holds : (n : ℕ) (which : Declared) (clause : Clause) → slice_get or_program.declared n ≡ Some which → IsDeclaredClause or_program which clause → Holds or_program clause
+or_obligation_holds zero which clause at says =
+    let which_is : which ≡ declared.Property 0 prop.Comm = some_is which (declared.Property 0 prop.Comm) (Some which) refl (sym at) in
+    same_holds or_program clause (bool_comm or_body) (declared_comm or_body or_props which clause which_is says) or_is_commutative.holds
+or_obligation_holds (suc zero) which clause at says =
+    let which_is : which ≡ declared.Property 0 prop.Idem = some_is which (declared.Property 0 prop.Idem) (Some which) refl (sym at) in
+    same_holds or_program clause (bool_idem or_body) (declared_idem or_body or_props which clause which_is says) or_is_idempotent.holds
+or_obligation_holds (suc (suc n)) which clause at says = absurd (nothing_is_some which None refl at)
+
+pub examples_hold_or_fail : ExamplesHoldOrFail
+examples_hold_or_fail = record {
+  or = record { each = λ n clause obligation. or_obligation_holds n obligation.declared clause obligation.number obligation.says };
+  left = (λ all. left_is_not_commutative.fails (all.each 0 (bool_comm (term.Free 0)) left_is_not_commutative.declared));
+  constant = (λ all. constant_is_not_idempotent.fails (all.each 0 (bool_idem true_term) constant_is_not_idempotent.declared));
+}

@@ -6,6 +6,7 @@ pub mod InstanceSizes
 pub mod Keeping
 pub mod Largest
 pub mod Openings
+pub mod PlainExamples
 pub mod Replacing
 pub mod Shapes
 pub mod Stacks

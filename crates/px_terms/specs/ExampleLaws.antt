@@ -8,7 +8,8 @@ use Rattle.px_terms.specs.Programs.{bool_type, bool_data, true_term}
 use Rattle.px_terms.specs.Values.{IsIn}
 use Rattle.px_terms.specs.Meaning.{truth}
 use Rattle.px_terms.specs.Holding.{Holds}
-use Rattle.px_terms.specs.Obligations.{IsObligation}
+use Rattle.px_terms.specs.Obligations.{IsObligation, AllHold}
+use Rattle.px_terms.specs.Plain.{IsPlainProgram}
 use Rattle.px_terms.specs.Validity.{IsValidAt}
 use Rattle.px_terms.specs.Examples.{bool_comm, bool_idem, or_body, or_program, left_program, constant_program, false_is_true}
 
@@ -52,3 +53,15 @@ ConstantIsNotIdempotent = IsFalseObligation constant_program 0 (bool_idem true_t
 -- False = True is not valid, whatever the program
 abbrev pub FalseIsNotTrue : Type 0
 FalseIsNotTrue = (Q : Program) → IsValidAt Q [] [] false_is_true 0 → ⊥
+
+-- The three programs are plain, so laws on plain programs speak of them.
+pub record ExamplesArePlain : Type 0 where
+  pub or : IsPlainProgram or_program
+  pub left : IsPlainProgram left_program
+  pub constant : IsPlainProgram constant_program
+
+-- all that is declared of `or` holds, and not all that is declared of the other two
+pub record ExamplesHoldOrFail : Type 0 where
+  pub or : AllHold or_program
+  pub left : AllHold left_program → ⊥
+  pub constant : AllHold constant_program → ⊥

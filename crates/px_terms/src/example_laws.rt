@@ -1,4 +1,4 @@
-ghost use Rattle.px_terms.specs.ExampleLaws.{BoolHasTwoValues, OrIsCommutative, OrIsIdempotent, LeftIsNotCommutative, ConstantIsNotIdempotent, FalseIsNotTrue};
+ghost use Rattle.px_terms.specs.ExampleLaws.{BoolHasTwoValues, OrIsCommutative, OrIsIdempotent, LeftIsNotCommutative, ConstantIsNotIdempotent, FalseIsNotTrue, ExamplesArePlain, ExamplesHoldOrFail};
 
 /// Where `Bool` is the only datatype it has the two values `False` and `True`, which are not the same, and
 /// no other value.
@@ -33,4 +33,15 @@ pub fn constant_is_not_idempotent()
 /// the program.
 pub fn false_is_not_true()
     ensures { FalseIsNotTrue }
+{}
+
+/// The three programs are plain: typed, over `Bool` alone, with bodies that call nothing. So what is proved of
+/// every plain program is proved of some.
+pub fn examples_are_plain()
+    ensures { ExamplesArePlain }
+{}
+
+/// Every obligation of `or` holds, whatever clause it may have; of `left` and `always` not every one does.
+pub fn examples_hold_or_fail()
+    ensures { ExamplesHoldOrFail }
 {}

@@ -34,8 +34,8 @@ pub use copying::{
 };
 pub use depths::{depth, depth_of_terms, depth_of_ty, depth_of_tys};
 pub use example_laws::{
-    bool_has_two_values, constant_is_not_idempotent, false_is_not_true, left_is_not_commutative,
-    or_is_commutative, or_is_idempotent,
+    bool_has_two_values, constant_is_not_idempotent, examples_are_plain, examples_hold_or_fail,
+    false_is_not_true, left_is_not_commutative, or_is_commutative, or_is_idempotent,
 };
 pub use instance_sizes::size_of_instance;
 pub use instances::{
