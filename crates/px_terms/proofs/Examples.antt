@@ -1,5 +1,5 @@
 -- Small programs: true properties hold, and false ones do not.
-use Rattle.std.proofs.Common.{◌≡◌, ◌⊎◌, inl, inr, ℕ, zero, suc, ◌+◌, ◌<◌, List, [], ◌∷◌, ◌++◌, map, Bool, true, false, Option, Some, None, refl, sym, ap, ◌∙◌, slice_get, option_and_then, subst, arith}
+use Rattle.std.proofs.Common.{◌≡◌, ◌⊎◌, inl, inr, ℕ, zero, suc, ◌<◌, List, [], ◌∷◌, ◌++◌, Bool, true, false, Some, None, refl, sym, ap, ◌∙◌, slice_get, option_and_then, subst, arith}
 use Rattle.px_terms.specs.declared.types.Ty.{Ty, out-Ty}
 use Rattle.px_terms.specs.declared.types.Ty.TheOpen.{Ty-F}
 use Rattle.px_terms.specs.declared.types.Ty.TheVariants as type
@@ -26,7 +26,7 @@ use Rattle.px_terms.specs.TreeEquations.{ty_instance-Con}
 use Rattle.px_terms.specs.Programs.{bool_type, bool_data, constructor_at, false_term, true_term}
 use Rattle.px_terms.specs.Values.{IsInLayer, AreIn, IsIn}
 use Rattle.px_terms.specs.Values as values
-use Rattle.px_terms.specs.Meaning.{truth, chosen, MeansOf, MeanAll, Means, SameValue, free, con, choose, call, none, more, defined}
+use Rattle.px_terms.specs.Meaning.{truth, chosen, MeansOf, Means, SameValue, free, con, choose, call, none, more, defined}
 use Rattle.px_terms.specs.Typing as typing
 use Rattle.px_terms.specs.Clauses.{own_call, Shape, IsClause, comm_clause, idem_clause}
 use Rattle.px_terms.specs.Clauses as clauses
@@ -36,7 +36,7 @@ use Rattle.px_terms.specs.Obligations.{IsObligation, IsDeclaredClause, AllHold}
 use Rattle.px_terms.specs.Obligations as obligations
 use Rattle.px_terms.specs.Validity as fitting
 use Rattle.px_terms.specs.Examples.{bool_function, bool_program, bool_shape, bool_comm, bool_idem, or_body, or_program, left_program, constant_program, false_is_true}
-use Rattle.px_terms.specs.ExampleLaws.{ExamplesHoldOrFail, HasTwoTruths, BoolHasTwoValues, OrIsCommutative, OrIsIdempotent, LeftIsNotCommutative, ConstantIsNotIdempotent, FalseIsNotTrue}
+use Rattle.px_terms.specs.ExampleLaws.{ExamplesHoldOrFail, BoolHasTwoValues, OrIsCommutative, OrIsIdempotent, LeftIsNotCommutative, ConstantIsNotIdempotent, FalseIsNotTrue}
 use Rattle.px_terms.proofs.Existence.{IsTruth, truth_value, truth_of}
 use Rattle.px_terms.proofs.BoolTerms.{some_is, nothing_is_some}
 use Rattle.px_terms.proofs.Unique.{unique}
