@@ -1,4 +1,5 @@
 pub mod BoolTerms
+pub mod Examples
 pub mod Existence
 pub mod FirstSequents
 pub mod Forward
@@ -6,6 +7,7 @@ pub mod InstanceSizes
 pub mod Keeping
 pub mod Largest
 pub mod Openings
+pub mod PlainExamples
 pub mod Preservation
 pub mod Replacing
 pub mod RowsAreSound

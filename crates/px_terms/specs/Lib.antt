@@ -18,3 +18,5 @@ pub mod Spelling
 pub mod Laws
 pub mod Plain
 pub mod Validity
+pub mod Examples
+pub mod ExampleLaws

@@ -7,6 +7,7 @@
 mod clause;
 mod copying;
 mod depths;
+mod example_laws;
 mod instance_sizes;
 mod instances;
 mod laws;
@@ -32,6 +33,10 @@ pub use copying::{
     copy_terms, copy_ty, copy_tys,
 };
 pub use depths::{depth, depth_of_terms, depth_of_ty, depth_of_tys};
+pub use example_laws::{
+    bool_has_two_values, constant_is_not_idempotent, examples_are_plain, examples_hold_or_fail,
+    false_is_not_true, left_is_not_commutative, or_is_commutative, or_is_idempotent,
+};
 pub use instance_sizes::size_of_instance;
 pub use instances::{
     instance, instance_of_fun, instance_of_funs, instance_of_terms, instance_of_ty, instance_of_tys,
