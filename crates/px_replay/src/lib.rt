@@ -7,6 +7,7 @@ mod cases;
 mod clauses;
 mod fields;
 mod lines;
+mod opened;
 mod replay;
 mod rows;
 mod small;
