@@ -1,7 +1,7 @@
 -- The stack, the rows and the text, one row after the other.
 use Rattle.std.specs.Prelude.{◌==◌}
-use Rattle.std.proofs.Common.{◌≡◌, ◌<◌, ◌≤◌, ◌+◌, ℕ, zero, suc, true, eqb-true, List, [], ◌∷◌, ◌++◌, length, reverse, slice_get, Some, None, All, refl, sym, ap, subst, ◌∙◌, append_assoc, append-nil, add-one, add-zero, zero-add, arith, length-append, IfOk}
-use Rattle.std.proofs.lemmas.List.{reverse-append}
+use Rattle.std.proofs.Common.{◌≡◌, ◌<◌, ◌+◌, ℕ, zero, suc, true, eqb-true, List, [], ◌∷◌, ◌++◌, length, map, reverse, slice_get, Some, None, All, refl, sym, ap, subst, ◌∙◌, append_assoc, append-nil, add-zero, zero-add, arith, length-append}
+use Rattle.std.proofs.lemmas.List.{reverse-append, map-append}
 use Rattle.std.proofs.lemmas.List.Elements.{All-nil, All-cons, All-head, All-tail, All-push, All-append}
 use Rattle.std.proofs.lemmas.Grind.{flat_map-append}
 use Rattle.px_terms.specs.declared.clause.Clause.{Clause}
@@ -10,21 +10,18 @@ use Rattle.px_terms.specs.declared.program.Program.{Program}
 use Rattle.px_terms.specs.declared.sequent.Sequent.{Sequent}
 use Rattle.px_terms.specs.declared.row.Row.{Row}
 use Rattle.px_terms.specs.declared.row.Row.TheVariants as row
-use Rattle.px_terms.specs.Obligations.{IsDeclaredClause, IsObligation}
+use Rattle.px_terms.specs.Obligations.{IsDeclaredClause}
 use Rattle.px_terms.specs.Sequents.{IsWithinLimits, first_sequent}
-use Rattle.px_terms.specs.Derivations.{Opens, Leads, stays, goes_on, Tree, Node, Derives, DerivesObligation, StackIsTree, rows_of}
+use Rattle.px_terms.specs.Derivations.{Opens, Leads, stays, goes_on, Tree, Derives, DerivesObligation, StackIsTree, rows_of}
 use Rattle.px_terms.specs.Spelling.{line_of, lines_of, rows_from, IsDerivationText}
-use Rattle.px_replay.specs.Replays.{Opened, ReplaysRow, HasReplayed, ReplaysObligation, ReplaysBelow}
+use Rattle.px_replay.specs.declared.opened.Open.{Open}
+use Rattle.px_replay.specs.Replays.{IsRightlyMarked, child_within, sequents_of, ReplaysRow, HasReplayed, ReplaysObligation, ReplaysBelow}
 
 reverse-cons : {X : Type 0} (x : X) (xs : List X) → reverse (x ∷ xs) ≡ reverse xs ++ x ∷ []
 reverse-cons x xs = reverse-append (x ∷ []) xs
 
 reverse-push : {X : Type 0} (xs : List X) (x : X) → reverse (xs ++ x ∷ []) ≡ x ∷ reverse xs
 reverse-push xs x = reverse-append xs (x ∷ [])
-
-reverse-reverse : {X : Type 0} (xs : List X) → reverse (reverse xs) ≡ xs
-reverse-reverse [] = refl
-reverse-reverse {X} (x ∷ xs) = ap (λ (ys : List X). reverse ys) (reverse-cons x xs) ∙ (reverse-push (reverse xs) x ∙ ap (λ (ys : List X). x ∷ ys) (reverse-reverse xs))
 
 all_reverse : {X : Type 0} (P : X → Type 0) (xs : List X) → All P xs → All P (reverse xs)
 all_reverse P [] all = All-nil P
@@ -43,27 +40,43 @@ lines_last rows r rest =
     let whole : lines_of (rows ++ r ∷ []) ≡ lines_of rows ++ (line_of r ++ 10 ∷ []) = flat_map-append (λ (q : Row). line_of q ++ 10 ∷ []) rows (r ∷ []) ∙ ap (λ (bytes : List ℕ). lines_of rows ++ bytes) (append-nil (line_of r ++ 10 ∷ [])) in
     ap (λ (bytes : List ℕ). bytes ++ rest) whole ∙ (append_assoc (lines_of rows) (line_of r ++ 10 ∷ []) rest ∙ ap (λ (bytes : List ℕ). lines_of rows ++ bytes) (append_assoc (line_of r) (10 ∷ []) rest))
 
+-- the sequents of children
+sequents_of-children : (ss : List Sequent) → map (λ (o : Open). o.sequent) (map child_within ss) ≡ ss
+sequents_of-children [] = refl
+sequents_of-children (s ∷ ss) = ap (λ (others : List Sequent). s ∷ others) (sequents_of-children ss)
+
+reverse-map : {X Y : Type 0} (f : X → Y) (xs : List X) → reverse (map f (reverse xs)) ≡ map f xs
+reverse-map f [] = refl
+reverse-map {X} {Y} f (x ∷ xs) = ap (λ (ys : List X). reverse (map f ys)) (reverse-cons x xs) ∙ (ap (λ (ys : List Y). reverse ys) (map-append f (reverse xs) (x ∷ [])) ∙ (reverse-push (map f (reverse xs)) (f x) ∙ ap (λ (ys : List Y). f x ∷ ys) (reverse-map f xs)))
+
+-- children that are within the limits are rightly marked
+all_marked : (ss : List Sequent) → All IsWithinLimits ss → All IsRightlyMarked (map child_within ss)
+all_marked [] all = All-nil IsRightlyMarked
+all_marked (s ∷ ss) all = All-cons IsRightlyMarked (child_within s) (map child_within ss) (record { within = λ marked. All-head IsWithinLimits s ss all }) (all_marked ss (All-tail IsWithinLimits s ss all))
+
 -- the first sequent alone is open, and nothing was read
-pub begins_replay : (P : Program) (n : ℕ) (first : Sequent) (text : List ℕ) → HasReplayed P n first (first ∷ []) text text
+pub begins_replay : (P : Program) (n : ℕ) (first : Open) (text : List ℕ) → HasReplayed P n first.sequent (first ∷ []) text text
 begins_replay P n first text = record { rows = []; leads = stays; lines = refl }
 
 -- one more row was replayed at the sequent on top
-pub goes_on_replay : (P : Program) (n : ℕ) (first : Sequent) (stack popped new : List Sequent) (s : Sequent) (text rest later : List ℕ) → stack ≡ popped ++ s ∷ [] → HasReplayed P n first stack text rest → ReplaysRow P n s popped new rest later → HasReplayed P n first new text later
-goes_on_replay P n first stack popped new s text rest later split so_far one =
-    let top : reverse stack ≡ s ∷ reverse popped = ap (λ (ss : List Sequent). reverse ss) split ∙ reverse-push popped s in
-    let onto : one.opened.children ++ reverse popped ≡ reverse new = ap (λ (ss : List Sequent). ss ++ reverse popped) (sym (reverse-reverse one.opened.children)) ∙ (sym (reverse-append popped (reverse one.opened.children)) ∙ ap (λ (ss : List Sequent). reverse ss) (sym one.opened.stack)) in
+pub goes_on_replay : (P : Program) (n : ℕ) (first : Sequent) (stack popped new : List Open) (top : Open) (text rest later : List ℕ) → stack ≡ popped ++ top ∷ [] → HasReplayed P n first stack text rest → ReplaysRow P n top.sequent popped new rest later → HasReplayed P n first new text later
+goes_on_replay P n first stack popped new top text rest later split so_far one =
+    let children = one.opened.children in
+    let here : sequents_of stack ≡ top.sequent ∷ sequents_of popped = ap (λ (os : List Open). map (λ (o : Open). o.sequent) os) (ap (λ (os : List Open). reverse os) split ∙ reverse-push popped top) in
+    let turned : reverse new ≡ map child_within children ++ reverse popped = ap (λ (os : List Open). reverse os) one.opened.stack ∙ (reverse-append popped (map child_within (reverse children)) ∙ ap (λ (os : List Open). os ++ reverse popped) (reverse-map child_within children)) in
+    let onto : sequents_of new ≡ children ++ sequents_of popped = ap (λ (os : List Open). map (λ (o : Open). o.sequent) os) turned ∙ (map-append (λ (o : Open). o.sequent) (map child_within children) (reverse popped) ∙ ap (λ (ss : List Sequent). ss ++ sequents_of popped) (sequents_of-children children)) in
     record {
       rows = so_far.rows ++ one.row ∷ [];
-      leads = subst (λ (ss : List Sequent). Leads P n (first ∷ []) (so_far.rows ++ one.row ∷ []) ss) onto (leads_last P n (first ∷ []) so_far.rows (reverse stack) s (reverse popped) one.row one.opened.children so_far.leads top one.opened.opens);
+      leads = subst (λ (ss : List Sequent). Leads P n (first ∷ []) (so_far.rows ++ one.row ∷ []) ss) (sym onto) (leads_last P n (first ∷ []) so_far.rows (sequents_of stack) top.sequent (sequents_of popped) one.row children so_far.leads here one.opened.opens);
       lines = so_far.lines ∙ (ap (λ (bytes : List ℕ). lines_of so_far.rows ++ bytes) one.line ∙ sym (lines_last so_far.rows one.row later));
     }
 
--- the stack stays within the limits
-pub stack_stays_small : (P : Program) (n : ℕ) (s : Sequent) (popped new : List Sequent) (rest later : List ℕ) → All IsWithinLimits popped → ReplaysRow P n s popped new rest later → All IsWithinLimits new
-stack_stays_small P n s popped new rest later small one = subst (All IsWithinLimits) (sym one.opened.stack) (All-append IsWithinLimits popped (reverse one.opened.children) small (all_reverse IsWithinLimits one.opened.children one.opened.small))
+-- the stack stays rightly marked
+pub stack_stays_marked : (P : Program) (n : ℕ) (s : Sequent) (popped new : List Open) (rest later : List ℕ) → All IsRightlyMarked popped → ReplaysRow P n s popped new rest later → All IsRightlyMarked new
+stack_stays_marked P n s popped new rest later marked one = subst (All IsRightlyMarked) (sym one.opened.stack) (All-append IsRightlyMarked popped (map child_within (reverse one.opened.children)) marked (all_marked (reverse one.opened.children) (all_reverse IsWithinLimits one.opened.children one.opened.small)))
 
 -- a row takes some of the text
-pub row_takes : (P : Program) (n : ℕ) (s : Sequent) (old new : List Sequent) (rest later : List ℕ) → ReplaysRow P n s old new rest later → length later < length rest
+pub row_takes : (P : Program) (n : ℕ) (s : Sequent) (old new : List Open) (rest later : List ℕ) → ReplaysRow P n s old new rest later → length later < length rest
 row_takes P n s old new rest later one =
     let e : length rest ≡ length (line_of one.row) + length (10 ∷ later) = ap length one.line ∙ length-append (line_of one.row) (10 ∷ later) in
     omega (arith, e)

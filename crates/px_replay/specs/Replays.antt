@@ -1,5 +1,5 @@
 -- What replay has done so far: the stack of open sequents, the rows that led to it, and the text that they are.
-use Rattle.std.specs.Prelude.{◌≡◌, ℕ, List, [], ◌∷◌, ◌++◌, length, reverse, slice_get, slice_set, Some, None, All}
+use Rattle.std.specs.Prelude.{◌≡◌, ℕ, List, [], ◌∷◌, ◌++◌, length, map, reverse, slice_get, slice_set, Some, None, All, IsTrue, true}
 use Rattle.px_terms.specs.declared.term.Term.{Term}
 use Rattle.px_terms.specs.declared.clause.Equation.{Equation}
 use Rattle.px_terms.specs.declared.program.Program.{Program}
@@ -9,6 +9,7 @@ use Rattle.px_terms.specs.declared.row.Kind.{Kind}
 use Rattle.px_terms.specs.declared.row.Row.{Row}
 use Rattle.px_terms.specs.declared.row.Row.TheVariants as row
 use Rattle.px_terms.specs.TreeEdits.{equations_put}
+use Rattle.px_replay.specs.declared.opened.Open.{Open}
 use Rattle.px_terms.specs.Sequents.{side_of, IsWithinLimits, frame_put}
 use Rattle.px_terms.specs.Steps.{Step}
 use Rattle.px_terms.specs.Derivations.{Opens, Leads, Tree, DerivesObligation, rows_of}
@@ -36,23 +37,35 @@ pub record StepsSide (P : Program) (s : Sequent) (at : ℕ) (side : Side) (path 
   pub found : slice_get s.alternatives at ≡ Some equation
   pub step : (facts : List Equation) → Step P facts (side_of equation side) path kind t
 
--- The row opens the sequent, and its children were put on the stack, the first on top; a stack's last item is its top.
-pub record Opened (P : Program) (n : ℕ) (s : Sequent) (r : Row) (old new : List Sequent) : Type 0 where
+-- Where an open sequent is marked as within the limits, it is.
+pub record IsRightlyMarked (o : Open) : Type 0 where
+  pub within : IsTrue o.is_within → IsWithinLimits o.sequent
+
+-- a child of a row as an open sequent, marked as within the limits
+abbrev pub child_within : Sequent → Open
+child_within s = record { sequent = s; is_within = true }
+
+-- the sequents of a stack, the top first; a stack's last item is its top
+abbrev pub sequents_of : List Open → List Sequent
+sequents_of stack = map (λ (o : Open). o.sequent) (reverse stack)
+
+-- The row opens the sequent, and its children were put on the stack, the first on top.
+pub record Opened (P : Program) (n : ℕ) (s : Sequent) (r : Row) (old new : List Open) : Type 0 where
   pub children : List Sequent
   pub opens : Opens P n s r children
-  pub stack : new ≡ old ++ reverse children
+  pub stack : new ≡ old ++ map child_within (reverse children)
   pub small : All IsWithinLimits children
 
 -- The text begins with a row that opens the sequent, and then comes the rest.
-pub record ReplaysRow (P : Program) (n : ℕ) (s : Sequent) (old new : List Sequent) (text rest : List ℕ) : Type 0 where
+pub record ReplaysRow (P : Program) (n : ℕ) (s : Sequent) (old new : List Open) (text rest : List ℕ) : Type 0 where
   pub row : Row
   pub opened : Opened P n s row old new
   pub line : text ≡ line_of row ++ 10 ∷ rest
 
 -- The text begins with rows that lead from the first sequent to this stack, and then comes the rest.
-pub record HasReplayed (P : Program) (n : ℕ) (first : Sequent) (stack : List Sequent) (text rest : List ℕ) : Type 0 where
+pub record HasReplayed (P : Program) (n : ℕ) (first : Sequent) (stack : List Open) (text rest : List ℕ) : Type 0 where
   pub rows : List Row
-  pub leads : Leads P n (first ∷ []) rows (reverse stack)
+  pub leads : Leads P n (first ∷ []) rows (sequents_of stack)
   pub lines : text ≡ lines_of rows ++ rest
 
 -- The text begins with the header and the rows of a tree that derives obligation n, and then comes the rest.

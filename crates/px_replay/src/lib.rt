@@ -8,6 +8,7 @@ mod clauses;
 mod fields;
 mod laws;
 mod lines;
+mod opened;
 mod replay;
 mod rows;
 mod small;

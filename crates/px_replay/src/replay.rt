@@ -3,15 +3,14 @@
 ghost use Rattle.std.specs.Prelude.{◌≡◌, ◌++◌, ◌∷◌, ◌↔◌, [], IfOk, IsTrue, Some, length, slice_get};
 ghost use Rattle.px_terms.specs.Obligations.{AllHold};
 ghost use Rattle.px_terms.specs.Plain.{IsPlainProgram};
-ghost use Rattle.px_terms.specs.Sequents.{IsWithinLimits};
 ghost use Rattle.px_terms.specs.Spelling.{IsDerivationText, line_of};
-ghost use Rattle.px_replay.specs.Replays.{HasReplayed, ReplaysRow, ReplaysObligation};
+ghost use Rattle.px_replay.specs.Replays.{IsRightlyMarked, HasReplayed, ReplaysRow, ReplaysObligation};
 
 use crate::clauses::{clause_of, open_obligation};
 use crate::lines::{RowEnd, read_row};
+use crate::opened::Open;
 use crate::rows::open_sequent;
-use crate::small::is_within_limits;
-use px_terms::{Declared, NoMemory, Program, Row, Sequent, derivations_are_sound, stack_is_tree};
+use px_terms::{Declared, NoMemory, Program, Row, derivations_are_sound, stack_is_tree};
 use sqlite_items::Items;
 use std::alloc::{AllocError, Global};
 
@@ -87,12 +86,9 @@ fn replay_obligation<'a>(
     ensures { IfOk result (λ rest. ReplaysObligation program.now number text.now rest.now) }
 {
     let first = open_obligation(alloc, clause_of(alloc, program, declared)?)?;
-    if !is_within_limits(&first) {
-        return Err(ReplayEnd::Rejected);
-    }
     let rows = after_header(alloc, number, text)?;
     stack_is_tree();
-    replay_tree(alloc, program, number, first, rows)
+    replay_tree(alloc, program, number, Open::first(first), rows)
 }
 
 /// The text after the header of an obligation, without induction.
@@ -121,17 +117,17 @@ fn replay_tree<'a>(
     alloc: Global,
     program: &Program,
     number: u32,
-    first: Sequent,
+    first: Open,
     text: &'a [u8],
 ) -> Result<&'a [u8], ReplayEnd>
-    requires { IsWithinLimits first }
-    ensures { IfOk result (λ rest. HasReplayed program.now number first [] text.now rest.now) }
+    requires { IsRightlyMarked first }
+    ensures { IfOk result (λ rest. HasReplayed program.now number first.sequent [] text.now rest.now) }
 {
     let mut stack = Items::new(alloc);
     stack.push(first)?;
     let mut rest = text;
-    while let Some(sequent) = stack.pop() {
-        rest = replay_row(alloc, program, number, sequent, rest, &mut stack)?;
+    while let Some(top) = stack.pop() {
+        rest = replay_row(alloc, program, number, top, rest, &mut stack)?;
     }
     Ok(rest)
 }
@@ -141,14 +137,14 @@ fn replay_row<'a>(
     alloc: Global,
     program: &Program,
     number: u32,
-    sequent: Sequent,
+    top: Open,
     text: &'a [u8],
-    stack: &mut Items<Sequent>,
+    stack: &mut Items<Open>,
 ) -> Result<&'a [u8], ReplayEnd>
-    requires { IsWithinLimits sequent }
-    ensures { IfOk result (λ rest. ReplaysRow program.now number sequent stack.old stack.new text.now rest.now) }
+    requires { IsRightlyMarked top }
+    ensures { IfOk result (λ rest. ReplaysRow program.now number top.sequent stack.old stack.new text.now rest.now) }
 {
     let read = read_row(alloc, text)?;
-    open_sequent(alloc, program, number, sequent, &read.row, stack)?;
+    open_sequent(alloc, program, number, top, &read.row, stack)?;
     Ok(read.rest)
 }

@@ -1,12 +1,14 @@
 //! Rows: what a row does to the top of the stack of open sequents.
 
-ghost use Rattle.std.specs.Prelude.{◌≡◌, ◌++◌, ◌∷◌, [], IfOk, OnOk, IsTrue, reverse, List};
+ghost use Rattle.std.specs.Prelude.{◌≡◌, ◌++◌, ◌∷◌, ◌⊎◌, [], IfOk, OnOk, IsTrue, All, map, reverse, List};
 ghost use Rattle.px_terms.specs.Sequents.{IsWithinLimits};
 ghost use Rattle.px_terms.specs.Derivations.{Opens};
-ghost use Rattle.px_replay.specs.Replays.{SidesAreOne, StepsSide, Opened};
+ghost use Rattle.px_replay.specs.Replays.{SidesAreOne, StepsSide, IsRightlyMarked, child_within, Opened};
 
 use crate::cases::cases;
+use crate::opened::Open;
 use crate::replay::ReplayEnd;
+use crate::small::is_within_limits;
 use crate::steps::stepped;
 use px_terms::{Kind, NoMemory, Path, Program, Row, Sequent, Side, Target, Term, same_term};
 use sqlite_items::{Items, at};
@@ -18,17 +20,17 @@ pub(crate) fn open_sequent(
     alloc: Global,
     program: &Program,
     number: u32,
-    sequent: Sequent,
+    top: Open,
     row: &Row,
-    stack: &mut Items<Sequent>,
+    stack: &mut Items<Open>,
 ) -> Result<(), ReplayEnd>
-    requires { IsWithinLimits sequent }
-    ensures { OnOk result (Opened program.now number sequent row.now stack.old stack.new) }
+    requires { IsRightlyMarked top }
+    ensures { OnOk result (Opened program.now number top.sequent row.now stack.old stack.new) }
 {
     if let Row::Step { target, path, kind } = row {
-        return open_stepped(alloc, program, number, sequent, *target, path, *kind, stack);
+        return open_stepped(alloc, program, number, top, *target, path, *kind, stack);
     }
-    open_lent(alloc, program, number, &sequent, row, stack)
+    open_lent(alloc, program, number, &top.sequent, row, stack)
 }
 
 /// Applies a step, and puts the sequent back.
@@ -36,17 +38,20 @@ fn open_stepped(
     alloc: Global,
     program: &Program,
     number: u32,
-    sequent: Sequent,
+    top: Open,
     target: Target,
     path: &Path,
     kind: Kind,
-    stack: &mut Items<Sequent>,
+    stack: &mut Items<Open>,
 ) -> Result<(), ReplayEnd>
-    requires { IsWithinLimits sequent }
-    ensures { OnOk result (Opened program.now number sequent (Row.Step target path.now kind) stack.old stack.new) }
+    requires { IsRightlyMarked top }
+    ensures { OnOk result (Opened program.now number top.sequent (Row.Step target path.now kind) stack.old stack.new) }
 {
-    let child = step(alloc, program, number, sequent, target, path, kind)?;
-    stack.push(child)?;
+    let Open { sequent, is_within } = top;
+    let child = step(
+        alloc, program, number, sequent, is_within, target, path, kind,
+    )?;
+    stack.push(Open::child(child))?;
     Ok(())
 }
 
@@ -57,7 +62,7 @@ fn open_lent(
     number: u32,
     sequent: &Sequent,
     row: &Row,
-    stack: &mut Items<Sequent>,
+    stack: &mut Items<Open>,
 ) -> Result<(), ReplayEnd>
     ensures { OnOk result (Opened program.now number sequent.now row.now stack.old stack.new) }
 {
@@ -87,18 +92,20 @@ fn is_same(sequent: &Sequent, alternative: u32) -> bool
     }
 }
 
-/// The sequent with the stepped side in its old place. Rejected where there is no such step, or where it is
-/// on a fact (as yet).
+/// The sequent with the stepped side in its old place. Rejected where there is no such step, where it is on a
+/// fact (as yet), or where the result is over the limits; of a sequent within them only the stepped side is
+/// looked at.
 fn step(
     alloc: Global,
     program: &Program,
     number: u32,
     mut sequent: Sequent,
+    is_within: bool,
     target: Target,
     path: &Path,
     kind: Kind,
 ) -> Result<Sequent, ReplayEnd>
-    requires { IsWithinLimits sequent }
+    requires { IsTrue is_within → IsWithinLimits sequent }
     ensures opens { IfOk result (λ child. Opens program.now number sequent (Row.Step target path.now kind) (child ∷ [])) }
     ensures small { IfOk result IsWithinLimits }
 {
@@ -111,7 +118,17 @@ fn step(
     };
     let whole = step_side(alloc, program, &sequent, place, side, path, kind)?;
     sequent.alternatives.set_side(place as usize, side, whole);
+    if !is_child_within(is_within, &sequent) {
+        return Err(ReplayEnd::Rejected);
+    }
     Ok(sequent)
+}
+
+/// The sequent was within the limits before its side was stepped, or it is now.
+fn is_child_within(was_within: bool, child: &Sequent) -> bool
+    ensures { IsTrue result → IsTrue was_within ⊎ IsWithinLimits child.now }
+{
+    was_within || is_within_limits(child)
 }
 
 /// What a step makes of a side of an alternative.
@@ -136,11 +153,12 @@ fn step_side(
 }
 
 /// Moves the sequents onto the stack, the first on top.
-fn push_reversed(stack: &mut Items<Sequent>, mut children: Items<Sequent>) -> Result<(), NoMemory>
-    ensures { OnOk result (stack.new ≡ stack.old ++ reverse children) }
+fn push_reversed(stack: &mut Items<Open>, mut children: Items<Sequent>) -> Result<(), NoMemory>
+    requires { All IsWithinLimits children }
+    ensures { OnOk result (stack.new ≡ stack.old ++ map child_within (reverse children)) }
 {
     while let Some(child) = children.pop() {
-        stack.push(child)?;
+        stack.push(Open::child(child))?;
     }
     Ok(())
 }

@@ -1,13 +1,12 @@
 use Rattle.std.proofs.Common.{length, All}
-use Rattle.px_terms.specs.Sequents.{IsWithinLimits}
-use Rattle.px_replay.specs.Replays.{HasReplayed}
+use Rattle.px_replay.specs.Replays.{IsRightlyMarked, HasReplayed}
 use Rattle.px_replay.proofs.replay.replay_tree.Given as goal
 
-abbrev pub invariant-loop-sequent : goal.invariant-loop-sequent
-invariant-loop-sequent l = record {
-  so_far : HasReplayed l.program l.number l.fn.first l.stack l.text l.rest;
-  small : All IsWithinLimits l.stack;
+abbrev pub invariant-loop-top : goal.invariant-loop-top
+invariant-loop-top l = record {
+  so_far : HasReplayed l.program l.number l.fn.first.sequent l.stack l.text l.rest;
+  marked : All IsRightlyMarked l.stack;
 }
 
-abbrev pub decreases-loop-sequent : goal.decreases-loop-sequent
-decreases-loop-sequent l = length l.rest
+abbrev pub decreases-loop-top : goal.decreases-loop-top
+decreases-loop-top l = length l.rest
