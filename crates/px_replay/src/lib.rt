@@ -12,6 +12,8 @@ mod replay;
 mod rows;
 mod small;
 mod steps;
+#[cfg(test)]
+mod tests;
 mod thin;
 
 pub use replay::{Accepted, ReplayEnd, replay_text};
