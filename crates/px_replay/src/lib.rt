@@ -13,6 +13,8 @@ mod replay;
 mod rows;
 mod small;
 mod steps;
+#[cfg(test)]
+mod tests;
 mod thin;
 
 pub use laws::accepted_is_true;
