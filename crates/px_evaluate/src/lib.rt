@@ -1,0 +1,12 @@
+//! A plain, slow evaluator of terms: what it finds is what the term means, by the definition of meaning
+//! that stands in px_terms, with the number of calls. It follows that definition rule by rule, and copies
+//! values wherever they are used.
+#![tactic(auto)]
+
+mod evaluation;
+#[cfg(test)]
+mod tests;
+mod values;
+
+pub use evaluation::evaluate;
+pub use values::Evaluated;
