@@ -5,7 +5,8 @@ use Rattle.std.proofs.lemmas.Grind.{flat_map-append}
 use Rattle.std.specs.Fmt.{decimal}
 use Rattle.px_terms.specs.Spelling.{path_word}
 use Rattle.px_replay.proofs.Decimals.{begins_number}
-use Rattle.px_replay.specs.Lines.{EndsNumber, EndsPath, child_words, AreSmall}
+use Rattle.px_terms.specs.Readable.{AreSmall}
+use Rattle.px_replay.specs.Lines.{EndsNumber, EndsPath, child_words}
 
 ended_number : (y : List ℕ) → EndsPath y → EndsNumber y
 ended_number [] ended = tt

@@ -5,7 +5,8 @@ ghost use Rattle.px_terms.specs.declared.row.Side.{Side as TheSide};
 ghost use Rattle.px_terms.specs.declared.row.Target.{Target as TheTarget};
 ghost use Rattle.px_terms.specs.declared.row.Kind.{Kind as TheKind};
 ghost use Rattle.px_replay.specs.declared.lines.RowEnd.TheVariants.{NoMemory};
-ghost use Rattle.px_replay.specs.Lines.{EndsNumber, HasNoNumber, EndsPath, child_words, AreSmall, IsReadableTarget, IsReadableKind};
+ghost use Rattle.px_terms.specs.Readable.{AreSmall, IsReadableTarget, IsReadableKind};
+ghost use Rattle.px_replay.specs.Lines.{EndsNumber, HasNoNumber, EndsPath, child_words};
 
 use crate::lines::RowEnd;
 use px_terms::{Kind, Path, Side, Target};

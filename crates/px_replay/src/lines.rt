@@ -6,7 +6,7 @@ ghost use Rattle.px_terms.specs.declared.row.Kind.{Kind as TheKind};
 ghost use Rattle.px_terms.specs.declared.row.Row.{Row as TheRow};
 ghost use Rattle.px_terms.specs.declared.row.Row.TheVariants.{Header, Same, Step, CaseVar};
 ghost use Rattle.px_replay.specs.declared.lines.RowEnd.TheVariants.{NoMemory};
-ghost use Rattle.px_replay.specs.Lines.{AreSmall, IsReadableTarget, IsReadableKind, IsReadable};
+ghost use Rattle.px_terms.specs.Readable.{AreSmall, IsReadableTarget, IsReadableKind, IsReadable};
 
 use crate::fields::{after_word, kind, number, path, target};
 use px_terms::{Kind, Row};

@@ -1,5 +1,5 @@
 -- The one spelling of a derivation as text.
-use Rattle.std.specs.Prelude.{◌≡◌, ℕ, ◌+◌, List, [], ◌∷◌, ◌++◌, if◌then◌else◌, codes}
+use Rattle.std.specs.Prelude.{◌≡◌, ℕ, ◌+◌, List, [], ◌∷◌, ◌++◌, if◌then◌else◌, codes, All}
 use Rattle.std.specs.List.{flat_map}
 use Rattle.std.specs.Fmt.{decimal}
 use Rattle.px_terms.specs.declared.program.Program.{Program}
@@ -12,6 +12,7 @@ use Rattle.px_terms.specs.declared.row.Target.TheVariants as target
 use Rattle.px_terms.specs.declared.row.Row.{Row}
 use Rattle.px_terms.specs.declared.row.Row.TheVariants as row
 use Rattle.px_terms.specs.Derivations.{Tree, IsDerivation, rows_of}
+use Rattle.px_terms.specs.Readable.{IsReadable}
 
 -- `l` or `r`
 abbrev pub side_letter : Side → List ℕ
@@ -60,8 +61,9 @@ rows_from n (tree ∷ trees) = (row.Header n tree.on ∷ rows_of tree.root) ++ r
 abbrev pub spelling : List Tree → List ℕ
 spelling trees = lines_of (rows_from 0 trees)
 
--- The text is that of a derivation of the program.
+-- The text is that of a derivation of the program, in whose rows each number is below 2^32.
 pub record IsDerivationText (P : Program) (text : List ℕ) : Type 0 where
   pub trees : List Tree
   pub derivation : IsDerivation P trees
+  pub readable : All IsReadable (rows_from 0 trees)
   pub spelled : text ≡ spelling trees

@@ -1,7 +1,7 @@
 //! Types, terms, programs, sequents and rows of derivations, as plain data, with the operations on
-//! terms: paths, copies and instances. Contracts see each of them as the tree that it is, so a copy
-//! equals its source. The definitions of the language stand in `specs/`: meaning, typing, clauses,
-//! steps, derivations and their text. Nothing here reads bytes.
+//! terms: paths, copies and instances; and written programs, with their places in the text. Contracts see
+//! each of them as the tree that it is, so a copy equals its source. The definitions of the language stand
+//! in `specs/`: meaning, typing, clauses, steps, derivations and their text. Nothing here reads bytes.
 #![tactic(auto)]
 
 mod clause;
@@ -17,6 +17,7 @@ mod path;
 mod places;
 mod program;
 mod putting;
+mod raw;
 mod row;
 mod sameness;
 mod sequent;
@@ -47,6 +48,10 @@ pub use path::Path;
 pub use places::{at_path, child, replace_at};
 pub use program::{ConDef, DataDef, Declared, Def, Lemma, Names, Program, ReplicaDef};
 pub use putting::{put, put_equations};
+pub use raw::{
+    Decl, RawArm, RawClaim, RawCon, RawData, RawDef, RawEquation, RawFnType, RawFun, RawKind, RawLemma,
+    RawProgram, RawProp, RawReplica, RawTerm, RawTy, RawTyKind,
+};
 pub use row::{Kind, Ref, Row, Side, Target};
 pub use sameness::{same_fun, same_funs, same_term, same_terms, same_ty, same_tys};
 pub use sequent::{Context, Frame, Present, Sequent};

@@ -1,5 +1,6 @@
 use Rattle.std.proofs.Common.{sym, ap, ◌∙◌, subst, ◌++◌}
-use Rattle.px_replay.specs.Lines.{child_words, AreSmall}
+use Rattle.px_terms.specs.Readable.{AreSmall}
+use Rattle.px_replay.specs.Lines.{child_words}
 use Rattle.px_replay.proofs.Paths.{IsLeft, one_child, no_child, child_read, small_more}
 use Rattle.px_replay.proofs.fields.children.Goals as goal
 

@@ -1,5 +1,6 @@
 use Rattle.std.proofs.Common.{◌≡◌, ◌++◌, List, ℕ, length}
-use Rattle.px_replay.specs.Lines.{child_words, AreSmall, EndsPath}
+use Rattle.px_terms.specs.Readable.{AreSmall}
+use Rattle.px_replay.specs.Lines.{child_words, EndsPath}
 use Rattle.px_replay.proofs.Paths.{IsLeft}
 use Rattle.px_replay.proofs.fields.children.Given as goal
 

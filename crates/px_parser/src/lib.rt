@@ -1,0 +1,10 @@
+//! The grammar's one tree of a program's tokens, or the first token through which no program begins.
+//! The grammar stands in `specs/`: a relation by cases between tokens and trees, one case a production.
+#![tactic(auto)]
+
+mod surface;
+
+pub use surface::{
+    Item, Name, SArm, SClaim, SCon, SData, SDef, SEquation, SExpr, SExprKind, SFnType, SFun, SLemma,
+    SParam, SParamKind, SReplica, SType, Surface,
+};
