@@ -29,7 +29,7 @@ use Rattle.px_terms.specs.Values as values
 use Rattle.px_terms.specs.Typing.{HasTypeLayer, HaveTypes, HasType, live}
 use Rattle.px_terms.specs.Typing as typing
 use Rattle.px_terms.specs.Clauses.{numbers_from, own_call, equation_clause, Shape, HasShape, comm_clause, idem_clause, IsClause, comm, idem}
-use Rattle.px_terms.specs.Holding.{HoldsIn}
+use Rattle.px_terms.specs.Holding.{FunsFit, HoldsIn}
 use Rattle.px_terms.specs.Obligations.{lemma_clause, IsDeclaredClause, of_property, of_lemma, IsObligation, AllHold}
 use Rattle.px_terms.specs.Sequents.{own_frame, first_sequent}
 use Rattle.px_terms.specs.Derivations.{Node, Tree, Derives, DerivesObligation, IsDerivation}
@@ -38,6 +38,8 @@ use Rattle.px_terms.specs.Plain as plain
 use Rattle.px_terms.specs.Validity.{FitVariables, IsValidAt}
 use Rattle.px_terms.specs.Validity as valid
 use Rattle.px_terms.specs.TypedSequents.{IsTypedEquation, IsTypedPresent, IsTypedSequent, HasBoolVariables}
+use Rattle.px_terms.proofs.Assumed.{Assumed}
+use Rattle.px_terms.proofs.TypedRows.{IsBoolSequent}
 
 some_is : {A : Type 0} (a b : A) (o : Option A) → o ≡ Some a → o ≡ Some b → a ≡ b
 some_is a b o p q = same_Some a b (sym p ∙ q)
@@ -329,12 +331,21 @@ tree_of P trees derivation n clause obligation =
     let found = item_at trees n within in
     (found.0.root, derived_first P n clause found.0 obligation (derivation.each n found.0 found.1))
 
--- where each derived sequent over truth values is valid, each obligation of a derivation holds
-pub all_hold : (P : Program) → IsPlainProgram P → (trees : List Tree) → IsDerivation P trees → ((types : List Ty) (funs : List Fun) (total n : ℕ) (s : Sequent) (root : Node) → IsTypedSequent P s → HasBoolVariables s.context → Derives P n s root → IsValidAt P types funs s total) → AllHold P
-all_hold P program trees derivation sound = record { each = λ n clause obligation. record { in_each = λ Q extends. subst (λ (R : Program). HoldsIn R clause) (sym extends.same) (holds n clause obligation) } }
+-- where under what is assumed each derived sequent over truth values is valid, each obligation of a derivation holds: the
+-- obligations in order, and for each the numbers in order
+pub all_hold : (P : Program) → IsPlainProgram P → (trees : List Tree) → IsDerivation P trees → ((types : List Ty) (funs : List Fun) (n : ℕ) (clause : Clause) (on : List ℕ) (total : ℕ) → Assumed P types funs n clause on total → (s : Sequent) (root : Node) → IsBoolSequent P s → Derives P n s root → IsValidAt P types funs s total) → AllHold P
+all_hold P program trees derivation sound = record { each = λ n clause obligation. record { in_each = λ Q extends. subst (λ (R : Program). HoldsIn R clause) (sym extends.same) (holds_below (suc n) n (omega arith) clause obligation) } }
   where
-    holds : (n : ℕ) (clause : Clause) → IsObligation P n clause → HoldsIn P clause
-    holds n clause obligation =
+    -- the first sequent is valid at every number below a bound, where the obligations before it hold
+    valid_below : (n : ℕ) (clause : Clause) → IsObligation P n clause → ((m : ℕ) (other : Clause) → m < n → IsObligation P m other → HoldsIn P other) → (types : List Ty) (funs : List Fun) → FunsFit P types clause.funs funs → (bound total : ℕ) → total < bound → IsValidAt P types funs (first_sequent clause (record { entries = [] })) total
+    valid_below n clause obligation lower types funs fit zero total below = absurd (omega arith)
+    valid_below n clause obligation lower types funs fit (suc bound) total below =
         let tree = tree_of P trees derivation n clause obligation in
         let typed = first_typed P program n clause obligation in
-        record { at = λ types count are funs fit rho in_types premises. (sound types funs 0 n (first_sequent clause (record { entries = [] })) tree.0 typed.0 typed.1 tree.1).some rho (fit_first P types clause.vars rho in_types) valid.none premises }
+        sound types funs n clause [] total (record { obligation = obligation; functions = fit; lower = lower; smaller = λ m smaller. valid_below n clause obligation lower types funs fit bound m (omega arith) }) (first_sequent clause (record { entries = [] })) tree.0 (record { typed = typed.0; bools = typed.1 }) tree.1
+
+    -- the obligations below a bound hold
+    holds_below : (bound n : ℕ) → n < bound → (clause : Clause) → IsObligation P n clause → HoldsIn P clause
+    holds_below zero n below clause obligation = absurd (omega arith)
+    holds_below (suc bound) n below clause obligation =
+        record { at = λ types count are funs fit rho in_types premises. (valid_below n clause obligation (λ m other before there. holds_below bound m (omega arith) other there) types funs fit 1 0 (omega arith)).some rho (fit_first P types clause.vars rho in_types) valid.none premises }

@@ -1,5 +1,5 @@
 -- True equations, before and after a step or a case.
-use Rattle.std.proofs.Common.{◌≡◌, ℕ, zero, suc, ◌+◌, List, [], ◌∷◌, ◌++◌, map, slice_get, slice_set, Option, Some, None, refl, sym, ap, subst, ◌∙◌, append-nil}
+use Rattle.std.proofs.Common.{◌≡◌, ℕ, zero, suc, List, [], ◌∷◌, map, slice_get, slice_set, Some, None, refl, sym, subst, append-nil}
 use Rattle.px_terms.specs.declared.types.Ty.{Ty}
 use Rattle.px_terms.specs.declared.types.Fun.{Fun}
 use Rattle.px_terms.specs.declared.term.Term.{Term, out-Term}
@@ -9,19 +9,14 @@ use Rattle.px_terms.specs.declared.program.Program.{Program}
 use Rattle.px_terms.specs.declared.sequent.Present.{Present}
 use Rattle.px_terms.specs.declared.row.Side.{Side}
 use Rattle.px_terms.specs.declared.row.Side.TheVariants.{Left, Right}
-use Rattle.px_terms.specs.declared.row.Kind.{Kind}
 use Rattle.px_terms.specs.TreeEdits.{with_side, equation_put, equations_put}
 use Rattle.px_terms.specs.Terms.{term_put}
 use Rattle.px_terms.specs.Meaning.{MeansOf, Means}
 use Rattle.px_terms.specs.Holding.{IsTrueAt, AreTrueAt, SomeIsTrueAt, here, later}
 use Rattle.px_terms.specs.Sequents.{side_of}
-use Rattle.px_terms.specs.Steps.{Step}
-use Rattle.px_terms.specs.Plain.{IsPlainProgram}
-use Rattle.px_terms.specs.Validity.{PresentSizes, none, more, value_size}
+use Rattle.px_terms.specs.Validity.{PresentSizes, none, more}
 use Rattle.px_terms.proofs.Unique.{unique}
-use Rattle.px_terms.proofs.Keeping.{replaced_keeps}
 use Rattle.px_terms.proofs.Forward.{put_keeps}
-use Rattle.px_terms.proofs.Turning.{turns_keep}
 
 module _ (Q : Program) (types : List Ty) (funs : List Fun) (rho : List Value) where
   -- both sides have some value
@@ -53,14 +48,10 @@ module _ (Q : Program) (types : List Ty) (funs : List Fun) (rho : List Value) wh
       let moved = forward w c before in
       subst (λ (u : Value). Means Q types funs rho s u c) (unique Q types funs rho [] (out-Term t) w v moved.0 a moved.1 after).0 before
 
-  -- a step keeps the value of the whole
-  pub step_keeps : IsPlainProgram Q → (facts : List Equation) (s : Term) (path : List ℕ) (kind : Kind) (t : Term) → Step Q facts s path kind t → (v : Value) (c : ℕ) → Means Q types funs rho s v c → (e : ℕ) × Means Q types funs rho t v e
-  step_keeps plain facts s path kind t step v c means = replaced_keeps Q types funs rho [] s path step.part step.becomes t step.at step.whole (λ u d m. turns_keep Q plain types funs rho [] facts kind step.part step.becomes refl step.turns u d m) v c means
-
-  -- an equation with a stepped side is true only where the old one is
-  pub step_back : IsPlainProgram Q → (facts : List Equation) (e : Equation) (side : Side) (path : List ℕ) (kind : Kind) (t : Term) → Step Q facts (side_of e side) path kind t → HasSides e → IsTrueAt Q types funs rho (with_side side e t) → IsTrueAt Q types funs rho e
-  step_back plain facts e Left path kind t step sides is = (is.0, sides.left.1, is.2, kept_value e.left t (step_keeps plain facts e.left path kind t step) sides.left.0 is.0 sides.left.1 is.1 sides.left.2 is.3, is.4)
-  step_back plain facts e Right path kind t step sides is = (is.0, is.1, sides.right.1, is.3, kept_value e.right t (step_keeps plain facts e.right path kind t step) sides.right.0 is.0 sides.right.1 is.2 sides.right.2 is.4)
+  -- an equation with another side that keeps the old side's value is true only where the old one is
+  pub side_back : (e : Equation) (side : Side) (t : Term) → ((v : Value) (c : ℕ) → Means Q types funs rho (side_of e side) v c → (x : ℕ) × Means Q types funs rho t v x) → HasSides e → IsTrueAt Q types funs rho (with_side side e t) → IsTrueAt Q types funs rho e
+  side_back e Left t keeps sides is = (is.0, sides.left.1, is.2, kept_value e.left t keeps sides.left.0 is.0 sides.left.1 is.1 sides.left.2 is.3, is.4)
+  side_back e Right t keeps sides is = (is.0, is.1, sides.right.1, is.3, kept_value e.right t keeps sides.right.0 is.0 sides.right.1 is.2 sides.right.2 is.4)
 
   module _ (variable : ℕ) (by : Term) (u : Value) (at : slice_get rho variable ≡ Some u) (means_u : (inside : List Value) → (e : ℕ) × MeansOf Q types funs rho inside (out-Term by) u e) where
     -- a term keeps its value when a term of the variable's value is put in

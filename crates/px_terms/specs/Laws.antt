@@ -8,7 +8,8 @@ use Rattle.px_terms.specs.declared.program.Program.{Program}
 use Rattle.px_terms.specs.declared.sequent.Sequent.{Sequent}
 use Rattle.px_terms.specs.declared.row.Row.{Row}
 use Rattle.px_terms.specs.Meaning.{Means}
-use Rattle.px_terms.specs.Obligations.{AllHold}
+use Rattle.px_terms.specs.declared.clause.Clause.{Clause}
+use Rattle.px_terms.specs.Obligations.{IsObligation, AllHold}
 use Rattle.px_terms.specs.Plain.{IsPlainProgram}
 use Rattle.px_terms.specs.Derivations.{Opens, Leads, Nodes, DeriveAll, rows_of_all, StackIsTree, Tree, IsDerivation}
 
@@ -28,6 +29,10 @@ StacksAreTrees = (P : Program) (n : ℕ) (stack : List Sequent) (rows : List Row
 -- the same of one sequent and its tree
 abbrev pub EachStackIsTree : Type 0
 EachStackIsTree = (P : Program) (n : ℕ) (s : Sequent) (rows : List Row) → StackIsTree P n s rows
+
+-- an obligation has at most one clause
+abbrev pub OneClause : Type 0
+OneClause = (P : Program) (n : ℕ) (clause other : Clause) → IsObligation P n clause → IsObligation P n other → clause ≡ other
 
 -- a term has at most one value and one number of calls
 abbrev pub OneMeaning : Type 0

@@ -1,4 +1,4 @@
-ghost use Rattle.px_terms.specs.Laws.{DerivationsAreSound, OneOpening, StacksAreTrees, EachStackIsTree, OneMeaning};
+ghost use Rattle.px_terms.specs.Laws.{DerivationsAreSound, OneClause, OneOpening, StacksAreTrees, EachStackIsTree, OneMeaning};
 
 /// A row leaves at most one list of children of a sequent, so the rows say which tree they are of.
 pub fn one_opening()
@@ -14,6 +14,11 @@ pub fn stack_is_trees()
 /// Rows lead from one open sequent to none exactly where they are the rows of a tree that derives it.
 pub fn stack_is_tree()
     ensures { EachStackIsTree }
+{}
+
+/// An obligation has at most one clause.
+pub fn one_clause()
+    ensures { OneClause }
 {}
 
 /// A term has at most one value and one number of calls, whatever the program and the values of its

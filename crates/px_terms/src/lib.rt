@@ -42,15 +42,17 @@ pub use instance_sizes::size_of_instance;
 pub use instances::{
     instance, instance_of_fun, instance_of_funs, instance_of_terms, instance_of_ty, instance_of_tys,
 };
-pub use laws::{derivations_are_sound, one_meaning, one_opening, stack_is_tree, stack_is_trees};
+pub use laws::{
+    derivations_are_sound, one_clause, one_meaning, one_opening, stack_is_tree, stack_is_trees,
+};
 pub use memory::NoMemory;
 pub use path::Path;
 pub use places::{at_path, child, replace_at};
 pub use program::{ConDef, DataDef, Declared, Def, Lemma, Names, Program, ReplicaDef};
 pub use putting::{put, put_equations};
 pub use raw::{
-    Decl, RawArm, RawClaim, RawCon, RawData, RawDef, RawEquation, RawFnType, RawFun, RawKind, RawLemma,
-    RawProgram, RawProp, RawReplica, RawTerm, RawTy, RawTyKind,
+    Decl, RawArm, RawClaim, RawCon, RawData, RawDef, RawEquation, RawFnType, RawFun, RawKind,
+    RawLemma, RawProgram, RawProp, RawReplica, RawTerm, RawTy, RawTyKind,
 };
 pub use row::{Kind, Ref, Row, Side, Target};
 pub use sameness::{same_fun, same_funs, same_term, same_terms, same_ty, same_tys};
