@@ -1,5 +1,5 @@
 -- Typed terms of a plain program: every type in them is `Bool`.
-use Rattle.std.proofs.Common.{◌≡◌, ℕ, zero, suc, ◌+◌, ◌<◌, List, [], ◌∷◌, ◌++◌, length, map, reverse, Option, Some, None, option_and_then, refl, sym, ap, ◌∙◌, slice_get, subst, arith}
+use Rattle.std.proofs.Common.{◌≡◌, ℕ, zero, suc, ◌<◌, List, [], ◌∷◌, ◌++◌, length, reverse, Option, Some, None, option_and_then, refl, sym, ap, ◌∙◌, slice_get, subst, arith}
 use Rattle.std.proofs.lemmas.List.{length-map}
 use Rattle.px_terms.specs.declared.types.Ty.{Ty, out-Ty}
 use Rattle.px_terms.specs.declared.types.Ty.TheOpen.{Ty-F}
@@ -15,9 +15,9 @@ use Rattle.px_terms.specs.declared.sequent.Context.{Context}
 use Rattle.px_terms.specs.Types.{ty_instance, tys_instance}
 use Rattle.px_terms.specs.TreeEquations.{ty_instance-Con}
 use Rattle.px_terms.specs.Programs.{bool_type, bool_data, constructor_at}
-use Rattle.px_terms.specs.Typing.{IsTypeLayer, AreTypes, IsType, HasTypeLayer, HaveTypes, HaveTypesInArms, HasType, word, var, free, bound, con, call, choose, none, more, no_arm, arm}
+use Rattle.px_terms.specs.Typing.{IsTypeLayer, IsType, HasTypeLayer, HaveTypes, HaveTypesInArms, HasType, word, var, free, bound, con, call, choose, none, more, no_arm, arm}
 use Rattle.px_terms.specs.TypedSequents.{HasBoolVariables}
-use Rattle.px_terms.specs.Plain.{IsPlainProgram, IsPlainDef, AreBools}
+use Rattle.px_terms.specs.Plain.{IsPlainProgram, IsPlainDef}
 use Rattle.px_terms.proofs.Shapes.{ty-Con-injective}
 
 mutual

@@ -1,5 +1,5 @@
 -- The row of the cases of a variable is sound: a value of `Bool` is `False` or `True`.
-use Rattle.std.proofs.Common.{◌≡◌, ℕ, zero, suc, ◌+◌, inl, inr, List, [], ◌∷◌, ◌++◌, slice_get, slice_set, Option, Some, None, refl, sym, ap, subst, ◌∙◌, append-nil}
+use Rattle.std.proofs.Common.{◌≡◌, ℕ, zero, suc, inl, inr, List, [], ◌∷◌, ◌++◌, slice_get, slice_set, Option, Some, None, refl, sym, ap, subst, ◌∙◌, append-nil}
 use Rattle.px_terms.specs.declared.types.Ty.{Ty}
 use Rattle.px_terms.specs.declared.types.Ty.TheVariants as type
 use Rattle.px_terms.specs.declared.types.Fun.{Fun}

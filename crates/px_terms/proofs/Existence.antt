@@ -1,5 +1,5 @@
 -- In a plain program each typed term has a value of its type at all fitting values.
-use Rattle.std.proofs.Common.{◌≡◌, ◌⊎◌, inl, inr, ℕ, zero, suc, ◌+◌, ◌<◌, List, [], ◌∷◌, length, map, Bool, true, false, Option, Some, None, option_map, refl, sym, ap, ◌∙◌, slice_get, subst, arith}
+use Rattle.std.proofs.Common.{◌≡◌, ◌⊎◌, inl, inr, ℕ, zero, suc, ◌+◌, ◌<◌, List, [], ◌∷◌, length, true, false, Option, Some, None, option_map, refl, sym, ap, ◌∙◌, slice_get, subst, arith}
 use Rattle.std.proofs.lemmas.List.{length-map}
 use Rattle.px_terms.specs.declared.types.Ty.{Ty, out-Ty}
 use Rattle.px_terms.specs.declared.types.Ty.TheOpen.{Ty-F}
@@ -12,14 +12,13 @@ use Rattle.px_terms.specs.declared.term.Value.{Value, out-Value, roll-Value}
 use Rattle.px_terms.specs.declared.term.Value.TheViews.{roll-out-Value}
 use Rattle.px_terms.specs.declared.term.Value.TheVariants as value
 use Rattle.px_terms.specs.declared.term.Value.TheOpen.{Value-F}
-use Rattle.px_terms.specs.declared.program.ConDef.{ConDef}
 use Rattle.px_terms.specs.declared.program.DataDef.{DataDef}
 use Rattle.px_terms.specs.declared.program.Def as definition
 use Rattle.px_terms.specs.declared.program.Program.{Program}
 use Rattle.px_terms.specs.declared.sequent.Context.{Context}
 use Rattle.px_terms.specs.Types.{ty_instance, tys_instance}
 use Rattle.px_terms.specs.TreeEquations.{ty_instance-Con}
-use Rattle.px_terms.specs.Programs.{bool_type, bool_data, constructor_at, body_of}
+use Rattle.px_terms.specs.Programs.{bool_type, bool_data, constructor_at}
 use Rattle.px_terms.specs.Values.{IsInLayer, AreIn, IsIn}
 use Rattle.px_terms.specs.Values as values
 use Rattle.px_terms.specs.Meaning.{truth, chosen, MeansOf, MeanAll, Gives, Means, free, con, choose, call, none, more, defined}
@@ -29,7 +28,7 @@ use Rattle.px_terms.specs.Validity.{FitVariables}
 use Rattle.px_terms.specs.Validity as fitting
 use Rattle.px_terms.specs.Plain.{IsPlainProgram, IsPlainDef, IsPlainLayer, ArePlain, AreBools}
 use Rattle.px_terms.specs.Plain as plainly
-use Rattle.px_terms.proofs.BoolTerms.{IsBoolLayer, AreBoolTerms, bool_variable, bool_truth, bool_match, bool_call, no_bool, more_bools, some_is, nothing_is_some, no_items, BoolConstructor, bool_constructor, BoolTyped, bool_term}
+use Rattle.px_terms.proofs.BoolTerms.{IsBoolLayer, AreBoolTerms, bool_variable, bool_truth, bool_match, bool_call, no_bool, more_bools, some_is, nothing_is_some, BoolConstructor, bool_constructor, bool_term}
 
 -- constructor k of `Bool`, as a value
 abbrev pub truth_value : ℕ → Value

@@ -5,7 +5,6 @@ use Rattle.px_terms.specs.declared.types.Fun.{Fun}
 use Rattle.px_terms.specs.declared.types.Head.{Head}
 use Rattle.px_terms.specs.declared.types.Head.TheVariants.{Def, Wle, Weq, FnVar}
 use Rattle.px_terms.specs.declared.term.Term.{Term, out-Term}
-use Rattle.px_terms.specs.declared.term.Term.TheVariants.{Free, Con, Match}
 use Rattle.px_terms.specs.declared.term.Term.TheOpen.{Term-F}
 use Rattle.px_terms.specs.declared.term.Value.{Value, out-Value}
 use Rattle.px_terms.specs.declared.term.Value.TheVariants as value

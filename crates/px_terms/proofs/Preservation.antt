@@ -1,34 +1,27 @@
 -- In a plain program typing is kept by what rows do.
-use Rattle.std.proofs.Common.{◌≡◌, ℕ, zero, suc, ◌+◌, ◌<◌, ◌==◌, List, [], ◌∷◌, ◌++◌, length, map, reverse, Bool, true, false, if◌then◌else◌, eqb, Option, Some, None, option_map, option_and_then, unwrap_or, refl, sym, ap, ◌∙◌, slice_get, slice_set, subst, arith}
+use Rattle.std.proofs.Common.{◌≡◌, ℕ, zero, suc, ◌<◌, List, [], ◌∷◌, ◌++◌, length, map, reverse, Option, Some, None, option_map, option_and_then, unwrap_or, refl, sym, ap, ◌∙◌, slice_get, slice_set, subst, arith}
 use Rattle.std.proofs.lemmas.List.{length-map, length-set}
-use Rattle.std.proofs.lemmas.Bool.{eqb-true, eqb-false}
-use Rattle.px_terms.specs.declared.types.Ty.{Ty, out-Ty}
-use Rattle.px_terms.specs.declared.types.Ty.TheOpen.{Ty-F}
+use Rattle.px_terms.specs.declared.types.Ty.{Ty}
 use Rattle.px_terms.specs.declared.types.Ty.TheVariants as type
-use Rattle.px_terms.specs.declared.types.Fun.{Fun}
 use Rattle.px_terms.specs.declared.types.Head.TheVariants.{Def}
 use Rattle.px_terms.specs.declared.term.Term.{Term, out-Term, roll-Term}
 use Rattle.px_terms.specs.declared.term.Term.TheViews.{roll-out-Term}
-use Rattle.px_terms.specs.declared.term.Term.TheVariants.{Free, Con, Call, Match, rolls-Free, rolls-Con, rolls-Call, rolls-Match, outs-Free, outs-Con, outs-Call, outs-Match}
+use Rattle.px_terms.specs.declared.term.Term.TheVariants.{Free, Con, Call, Match, rolls-Free, rolls-Con, rolls-Call, rolls-Match, outs-Con, outs-Call, outs-Match}
 use Rattle.px_terms.specs.declared.term.Term.TheOpen.{Term-F}
-use Rattle.px_terms.specs.declared.clause.Equation.{Equation}
 use Rattle.px_terms.specs.declared.clause.Sigma.{Sigma}
 use Rattle.px_terms.specs.declared.program.ConDef.{ConDef}
 use Rattle.px_terms.specs.declared.program.DataDef.{DataDef}
 use Rattle.px_terms.specs.declared.program.Def as definition
 use Rattle.px_terms.specs.declared.program.Program.{Program}
 use Rattle.px_terms.specs.declared.sequent.Context.{Context}
-use Rattle.px_terms.specs.declared.row.Kind.{Kind}
 use Rattle.px_terms.specs.Types.{ty_instance, tys_instance}
-use Rattle.px_terms.specs.Terms.{children_of, children, subterm, with_child_of, with_child, replaced, term_instance, term_put}
-use Rattle.px_terms.specs.TreeEquations.{ty_instance-Con, term_instance-Free, term_instance-Con, term_instance-Call, term_instance-Match, term_put-Free, term_put-Con, term_put-Call, term_put-Match}
-use Rattle.px_terms.specs.Programs.{bool_type, bool_data, constructor_at, body_of}
-use Rattle.px_terms.specs.Steps.{Turns, unfolds, selects, Step}
-use Rattle.px_terms.specs.Typing.{IsTypeLayer, AreTypes, IsType, HasTypeLayer, HaveTypes, HaveTypesInArms, HasType, live, free, con, call, choose, none, more, no_arm, arm}
-use Rattle.px_terms.specs.TypedSequents.{HasBoolVariables}
+use Rattle.px_terms.specs.Terms.{children_of, children, subterm, with_child_of, with_child, replaced, term_instance}
+use Rattle.px_terms.specs.TreeEquations.{ty_instance-Con, term_instance-Free, term_instance-Con, term_instance-Call, term_instance-Match}
+use Rattle.px_terms.specs.Programs.{bool_type, bool_data}
+use Rattle.px_terms.specs.Typing.{IsTypeLayer, IsType, HasTypeLayer, HaveTypes, HaveTypesInArms, HasType, live, free, con, call, choose, none, more, no_arm, arm}
 use Rattle.px_terms.specs.Plain.{IsPlainProgram, IsPlainDef, AreBools}
 use Rattle.px_terms.specs.Plain as plainly
-use Rattle.px_terms.proofs.BoolTerms.{IsBoolLayer, AreBoolTerms, bool_variable, bool_truth, bool_match, bool_call, no_bool, more_bools, some_is, nothing_is_some, AreFieldless, BoolTyped, bool_term}
+use Rattle.px_terms.proofs.BoolTerms.{IsBoolLayer, AreBoolTerms, bool_variable, bool_truth, bool_match, bool_call, no_bool, more_bools, some_is, nothing_is_some, AreFieldless}
 use Rattle.px_terms.proofs.Existence.{small_constructor, is_below, there_is, body_bool}
 
 -- each type is `Bool`

@@ -4,7 +4,6 @@ use Rattle.std.proofs.lemmas.Option.{same_Some}
 use Rattle.px_terms.specs.declared.types.Ty.{Ty}
 use Rattle.px_terms.specs.declared.types.Fun.{Fun}
 use Rattle.px_terms.specs.declared.term.Term.{Term, out-Term}
-use Rattle.px_terms.specs.declared.term.Term.TheVariants.{Con, Match, outs-Con}
 use Rattle.px_terms.specs.declared.term.Term.TheOpen.{Term-F}
 use Rattle.px_terms.specs.declared.term.Value.{Value, out-Value}
 use Rattle.px_terms.specs.declared.term.Value.TheVariants as value

@@ -14,6 +14,7 @@ pub mod Obligations
 pub mod Sequents
 pub mod Steps
 pub mod Derivations
+pub mod Numbered
 pub mod Readable
 pub mod Spelling
 pub mod Laws

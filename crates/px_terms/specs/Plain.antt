@@ -1,13 +1,9 @@
 -- Programs over truth values: their bodies call nothing, so each closed call of theirs has one value.
-use Rattle.std.specs.Prelude.{◌≡◌, ◌≤◌, ℕ, List, [], ◌∷◌, length, Some, slice_get}
+use Rattle.std.specs.Prelude.{◌≡◌, ℕ, List, [], ◌∷◌, Some, slice_get}
 use Rattle.px_terms.specs.declared.types.Ty.{Ty}
-use Rattle.px_terms.specs.declared.types.Prop.{Prop}
-use Rattle.px_terms.specs.declared.types.Prop.TheVariants as prop
 use Rattle.px_terms.specs.declared.term.Term.{Term, out-Term}
 use Rattle.px_terms.specs.declared.term.Term.TheOpen.{Term-F}
 use Rattle.px_terms.specs.declared.program.Def as definition
-use Rattle.px_terms.specs.declared.program.Declared.{Declared}
-use Rattle.px_terms.specs.declared.program.Declared.TheVariants as declared
 use Rattle.px_terms.specs.declared.program.Program.{Program}
 use Rattle.px_terms.specs.Programs.{bool_type, bool_data}
 use Rattle.px_terms.specs.Obligations.{IsTyped}
