@@ -11,7 +11,7 @@ use Rattle.px_drive.specs.declared.outcome.SourceFault.TheVariants.{Unbuilt}
 use Rattle.px_drive.specs.Lines.{line_of}
 use Rattle.px_drive.specs.Seen.{FilesSeen, SinkSeen}
 use Rattle.px_drive.specs.Ends.{limit_of, LineEnds}
-use Rattle.px_drive.specs.Laws.{UsageByWords, DoneOrUsage, EndsAreNamed, DoneIsReplayed, TooLongIsLonger, LongIsTooLong, LongIsNotReplayed, RefusalsPrintNothing}
+use Rattle.px_drive.specs.Laws.{UsageByWords, DoneOrUsage, EndsAreNamed, DoneIsReplayed, RejectedIsRefused, TooLongIsLonger, LongIsTooLong, LongIsNotReplayed, RefusalsPrintNothing}
 
 -- a line doesn't end in Usage
 pub no_usage : (files : FilesSeen) (out : SinkSeen) (line : CommandLine) (printed : List ℕ) → LineEnds files out line Usage printed → ⊥
@@ -68,8 +68,23 @@ done_is_replayed files out file derivation printed (inr (text, read, inr (progra
   printed_is = rw (← count) is;
 }
 
+pub rejected_is_refused : RejectedIsRefused
+rejected_is_refused files out file derivation printed (inl (h, _)) = absurd h
+rejected_is_refused files out file derivation printed (inr (text, _, inl (h, _))) = absurd h
+rejected_is_refused files out file derivation printed (inr (text, _, inr (program, _, inl (h, _)))) = absurd h
+rejected_is_refused files out file derivation printed (inr (text, read, inr (program, source, inr (steps, steps_read, inl (refused, _))))) = record {
+  text = text;
+  steps = steps;
+  program = program;
+  text_is = read.0;
+  steps_is = steps_read.0;
+  is_source = source;
+  is_none = refused;
+}
+rejected_is_refused files out file derivation printed (inr (text, _, inr (program, _, inr (steps, _, inr (n, _, h))))) = absurd h
+
 -- a text of which more than the limit came is longer than that
-longer : (known left : Option (List ℕ)) (came : List ℕ) (limit : ℕ) → Consumes known left came → limit < length came → IsLonger known limit
+pub longer : (known left : Option (List ℕ)) (came : List ℕ) (limit : ℕ) → Consumes known left came → limit < length came → IsLonger known limit
 longer None left came limit consumed above = tt
 longer (Some text) None came limit consumed above = absurd consumed
 longer (Some text) (Some rest) came limit consumed above = omega (arith, ap length consumed, length-append came rest)

@@ -2,3 +2,4 @@ pub mod Pieces
 pub mod Chains
 pub mod Causes
 pub mod Truths
+pub mod Completeness

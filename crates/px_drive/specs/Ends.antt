@@ -39,10 +39,10 @@ Sources bytes (Err (Source Unbuilt)) = ⊤
 Sources bytes (Err NoMemory) = ⊤
 Sources bytes (Err _) = ⊥
 
--- the number of obligations of a program of which the bytes are a derivation
+-- the number of obligations of a program of which the bytes are a derivation; or the bytes are none
 abbrev pub Accepts : Program → List ℕ → Result ℕ End → Type 0
 Accepts program bytes (Ok n) = IsDerivationText program bytes × (n ≡ length program.declared)
-Accepts program bytes (Err Rejected) = ⊤
+Accepts program bytes (Err Rejected) = ¬ IsDerivationText program bytes
 Accepts program bytes (Err NoMemory) = ⊤
 Accepts program bytes (Err _) = ⊥
 

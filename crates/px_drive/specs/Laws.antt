@@ -58,6 +58,21 @@ pub record IsReplayed (files : FilesSeen) (file derivation printed : List ℕ) :
 abbrev pub DoneIsReplayed : Type 0
 DoneIsReplayed = (files : FilesSeen) (out : SinkSeen) (file derivation printed : List ℕ) → LineEnds files out (Replay file derivation) Done printed → IsReplayed files file derivation printed
 
+-- a derivation was refused: the bytes that were read are none of the program, and both are those of the files where these
+-- tell their bytes
+pub record IsRefused (files : FilesSeen) (file derivation : List ℕ) : Type 0 where
+  pub text : List ℕ
+  pub steps : List ℕ
+  pub program : Program
+  pub text_is : Told (files.bytes file) text
+  pub steps_is : Told (files.bytes derivation) steps
+  pub is_source : IsThinSource text program
+  pub is_none : ¬ IsDerivationText program steps
+
+-- where `replay` ends Rejected, the derivation was refused for its cause
+abbrev pub RejectedIsRefused : Type 0
+RejectedIsRefused = (files : FilesSeen) (out : SinkSeen) (file derivation printed : List ℕ) → LineEnds files out (Replay file derivation) Rejected printed → IsRefused files file derivation
+
 -- a text that is told is too long only where it has more bytes than its limit
 abbrev pub TooLongIsLonger : Type 0
 TooLongIsLonger = (files : FilesSeen) (out : SinkSeen) (file derivation printed : List ℕ)

@@ -4,4 +4,5 @@ pub mod Seen
 pub mod Ends
 pub mod Answers
 pub mod Laws
+pub mod Completeness
 pub mod Headline

@@ -1,9 +1,11 @@
-ghost use Rattle.std.specs.Prelude.{◌≡◌, ◌≤◌, ◌⊎◌, map, string_bytes, All, IsTrue};
+ghost use Rattle.std.specs.Prelude.{◌≡◌, ◌≤◌, ◌⊎◌, map, string_bytes, All, IsTrue, Some};
 ghost use Rattle.std.specs.Option.{ForSome};
 ghost use Rattle.px_world.specs.Faults.{Rose};
 ghost use Rattle.px_drive.specs.Lines.{line_of, files_of};
 ghost use Rattle.px_drive.specs.Answers.{IsAnswer};
 ghost use Rattle.px_drive.specs.Headline.{Headline};
+ghost use Rattle.px_drive.specs.Completeness.{NoneRose, CanBeDone, IsDone};
+ghost use Rattle.px_drive.specs.declared.outcome.CommandLine.{CommandLine};
 
 use crate::chain::run_line;
 use crate::line::read_line;
@@ -57,6 +59,30 @@ pub fn drive<F: Files, O: Sink, E: Sink>(
       after = E.faults err.new;
     }) result }
     ensures headline { result.end ≡ End.Done → Headline (F.bytes_of files.old) result.line }
+    // Where no count of faults rose, a line whose work can be done ends Done.
+    ensures complete { (line : CommandLine) → line_of (map string_bytes words.now.items) ≡ Some line → CanBeDone (record {
+      bytes = F.bytes_of files.old;
+      opened = F.is_open files.new;
+      left = F.rest files.new;
+      before = F.faults files.old;
+      after = F.faults files.new;
+    }) line → NoneRose (record {
+      bytes = F.bytes_of files.old;
+      opened = F.is_open files.new;
+      left = F.rest files.new;
+      before = F.faults files.old;
+      after = F.faults files.new;
+    }) (record {
+      old = O.written out.old;
+      new = O.written out.new;
+      before = O.faults out.old;
+      after = O.faults out.new;
+    }) (record {
+      old = E.written err.old;
+      new = E.written err.new;
+      before = E.faults err.old;
+      after = E.faults err.new;
+    }) → IsDone result.end }
     ensures read_fault { result.end ≡ End.ReadFault → Rose (F.faults files.old) (F.faults files.new) }
     ensures write_fault { result.end ≡ End.WriteFault
         → Rose (O.faults out.old) (O.faults out.new) ⊎ Rose (E.faults err.old) (E.faults err.new) }

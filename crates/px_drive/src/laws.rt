@@ -1,6 +1,6 @@
 //! What the table of causes says of every call, as functions whose contracts are these laws.
 
-ghost use Rattle.px_drive.specs.Laws.{UsageByWords, DoneOrUsage, EndsAreNamed, DoneIsReplayed, TooLongIsLonger, LongIsTooLong, LongIsNotReplayed, RefusalsPrintNothing};
+ghost use Rattle.px_drive.specs.Laws.{UsageByWords, DoneOrUsage, EndsAreNamed, DoneIsReplayed, RejectedIsRefused, TooLongIsLonger, LongIsTooLong, LongIsNotReplayed, RefusalsPrintNothing};
 
 /// `Usage` comes only where the words are no plain line; there nothing else comes but want of memory.
 pub fn usage_is_by_words()
@@ -21,6 +21,11 @@ pub fn ends_are_named()
 /// printed.
 pub fn done_is_replayed()
     ensures { DoneIsReplayed }
+{}
+
+/// Where `replay` ends `Rejected`, the bytes that were read are no derivation of the program.
+pub fn rejected_is_refused()
+    ensures { RejectedIsRefused }
 {}
 
 /// A text that is told is too long only where it has more bytes than its limit.

@@ -1,4 +1,5 @@
-ghost use Rattle.std.specs.Prelude.{◌≡◌, ◌≤◌, length, IsTrue};
+ghost use Rattle.std.specs.Prelude.{◌≡◌, ◌≤◌, length, IfOk, IsTrue};
+ghost use Rattle.px_terms.specs.Numbered.{HasNumbers};
 ghost use Rattle.px_terms.specs.declared.limits.TheConstants.{PROGRAM_BYTES as PROGRAM_LIMIT};
 ghost use Rattle.px_drive.specs.Ends.{limit_of, ReadsText, Sources, Accepts};
 
@@ -50,7 +51,8 @@ pub fn read_text<F: Files>(
 /// The program of the bytes. It takes memory for the program.
 pub fn read_source(alloc: Global, bytes: &Bytes) -> Result<Program, End>
     requires { length bytes.now ≤ PROGRAM_LIMIT }
-    ensures { Sources bytes.now result }
+    ensures source { Sources bytes.now result }
+    ensures numbered { IfOk result HasNumbers }
 {
     match read_thin(alloc, bytes.as_slice()) {
         Ok(program) => Ok(program),
@@ -62,6 +64,7 @@ pub fn read_source(alloc: Global, bytes: &Bytes) -> Result<Program, End>
 /// Replays the derivation of the program in the bytes, and answers the number of its obligations. It
 /// takes memory.
 pub fn accept(alloc: Global, program: &Program, bytes: &Bytes) -> Result<u32, End>
+    requires { HasNumbers program.now }
     ensures { Accepts program.now bytes.now result }
 {
     match replay_text(alloc, program, bytes.as_slice()) {

@@ -10,19 +10,57 @@ use std::test::Fail;
 const OR: &[u8] =
     b"def or(a: Bool, b: Bool): Bool with comm, idem { match a { False => b, True => True } }\n";
 
-/// The derivation of that program, cut where the tests change it; a line feed ends it.
-const LINES_1_TO_4: &[u8] = b"goal 0\ncase 0\ncase 1\nsame 0\n";
+/// The lines of the derivation of that program.
+const LINES: [&[u8]; 24] = [
+    b"goal 0",
+    b"case 0",
+    b"case 1",
+    b"same 0",
+    b"step a0l / unfold",
+    b"step a0l / select",
+    b"step a0r / unfold",
+    b"step a0r / select",
+    b"same 0",
+    b"case 1",
+    b"step a0l / unfold",
+    b"step a0l / select",
+    b"step a0r / unfold",
+    b"step a0r / select",
+    b"same 0",
+    b"same 0",
+    b"goal 1",
+    b"case 0",
+    b"step a0l / unfold",
+    b"step a0l / select",
+    b"same 0",
+    b"step a0l / unfold",
+    b"step a0l / select",
+    b"same 0",
+];
 
-const LINES_5_TO_16: &[u8] =
-    b"step a0l / unfold\nstep a0l / select\nstep a0r / unfold\nstep a0r / select\n\
-same 0\ncase 1\nstep a0l / unfold\nstep a0l / select\nstep a0r / unfold\nstep a0r / select\nsame 0\nsame 0\n";
+/// The derivation of that program.
+const WHOLE: &[u8] = b"goal 0\ncase 0\ncase 1\nsame 0\nstep a0l / unfold\nstep a0l / select\nstep a0r / unfold\nstep a0r / select\n\
+same 0\ncase 1\nstep a0l / unfold\nstep a0l / select\nstep a0r / unfold\nstep a0r / select\nsame 0\nsame 0\n\
+goal 1\ncase 0\nstep a0l / unfold\nstep a0l / select\nsame 0\nstep a0l / unfold\nstep a0l / select\nsame 0\n";
 
-const LINE_17: &[u8] = b"goal 1\n";
+/// Lines as a text, each ended by a line feed.
+fn text_of(alloc: Global, lines: &[&[u8]]) -> Result<Bytes, Fail> {
+    let mut text = Bytes::new(alloc);
+    for line in lines {
+        text.extend_from_slice(line)?;
+        text.extend_from_slice(b"\n")?;
+    }
+    Ok(text)
+}
 
-const LINES_18_TO_24: &[u8] = b"case 0\nstep a0l / unfold\nstep a0l / select\nsame 0\n\
-step a0l / unfold\nstep a0l / select\nsame 0";
-
-const WHOLE: &[&[u8]] = &[LINES_1_TO_4, LINES_5_TO_16, LINE_17, LINES_18_TO_24, b"\n"];
+/// The derivation with other bytes in the place of the line at `place`.
+fn text_with(alloc: Global, place: usize, other: &[u8]) -> Result<Bytes, Fail> {
+    let mut lines = Vec::new(alloc);
+    for (at, line) in LINES.iter().enumerate() {
+        lines.push(if at == place { other } else { *line })?;
+    }
+    text_of(alloc, lines.as_slice())
+}
 
 /// A call of `drive` over a program named `p` and a derivation named `d`, in pieces of so many bytes. The
 /// listed calls of the files and writes of the output and of the errors fail.
@@ -30,7 +68,7 @@ const WHOLE: &[&[u8]] = &[LINES_1_TO_4, LINES_5_TO_16, LINE_17, LINES_18_TO_24, 
 struct Call<'a> {
     words: &'a [&'a str],
     program: &'a [u8],
-    derivation: &'a [&'a [u8]],
+    derivation: &'a [u8],
     piece: usize,
     failing_calls: &'a [u64],
     failing_writes: &'a [u64],
@@ -63,13 +101,9 @@ fn expect(
     for word in call.words {
         words.push(String::from_str(alloc, word)?)?;
     }
-    let mut derivation = Bytes::new(alloc);
-    for part in call.derivation {
-        derivation.extend_from_slice(part)?;
-    }
     let mut files = MemoryFiles::new(alloc, call.failing_calls, call.piece)?;
     files.add("p", call.program)?;
-    files.add("d", derivation.as_slice())?;
+    files.add("d", call.derivation)?;
     let mut out = MemorySink::new(alloc, call.failing_writes, call.piece)?;
     let mut err = MemorySink::new(alloc, call.failing_errors, call.piece)?;
     let outcome = drive(alloc, &words, &mut files, &mut out, &mut err);
@@ -89,53 +123,82 @@ fn a_derivation_is_accepted(rt: HostRuntime) -> Result<(), Fail> {
     expect(&rt, rt.alloc(), &small, 0, "accepted 2\n", "")?;
     let empty = Call {
         program: b"",
-        derivation: &[],
+        derivation: b"",
         ..REPLAY
     };
     expect(&rt, rt.alloc(), &empty, 0, "accepted 0\n", "")
 }
 
 /// A call over another derivation is rejected.
-fn expect_rejected(rt: &impl Abort, alloc: Global, derivation: &[&[u8]]) -> Result<(), Fail> {
+fn expect_rejected(rt: &impl Abort, alloc: Global, derivation: &Bytes) -> Result<(), Fail> {
     let call = Call {
-        derivation,
+        derivation: derivation.as_slice(),
         ..REPLAY
     };
     expect(rt, alloc, &call, 5, "", "rejected\n")
 }
 
 #[test]
-fn another_text_is_rejected(rt: HostRuntime) -> Result<(), Fail> {
-    expect_rejected(&rt, rt.alloc(), &[LINES_1_TO_4, LINES_5_TO_16])?;
-    expect_rejected(&rt, rt.alloc(), &[LINES_1_TO_4, LINES_5_TO_16, LINE_17])?;
-    expect_rejected(
-        &rt,
-        rt.alloc(),
-        &[
-            LINES_1_TO_4,
-            b"same 0\n",
-            LINES_5_TO_16,
-            LINE_17,
-            LINES_18_TO_24,
-            b"\n",
-        ],
-    )?;
-    expect_rejected(
-        &rt,
-        rt.alloc(),
-        &[LINES_1_TO_4, LINES_5_TO_16, LINE_17, LINES_18_TO_24],
-    )?;
-    expect_rejected(
-        &rt,
-        rt.alloc(),
-        &[
-            LINES_1_TO_4,
-            LINES_5_TO_16,
-            LINE_17,
-            LINES_18_TO_24,
-            b"\nsame 0\n",
-        ],
-    )
+fn a_derivation_cut_short_is_rejected(rt: HostRuntime) -> Result<(), Fail> {
+    for count in 0..LINES.len() {
+        expect_rejected(&rt, rt.alloc(), &text_of(rt.alloc(), &LINES[..count])?)?;
+    }
+    let without_line_feed = Call {
+        derivation: &WHOLE[..WHOLE.len() - 1],
+        ..REPLAY
+    };
+    expect(&rt, rt.alloc(), &without_line_feed, 5, "", "rejected\n")
+}
+
+#[test]
+fn another_row_is_rejected(rt: HostRuntime) -> Result<(), Fail> {
+    for place in 0..LINES.len() {
+        expect_rejected(&rt, rt.alloc(), &text_with(rt.alloc(), place, b"same 1")?)?;
+    }
+    let twice = text_with(rt.alloc(), 3, b"same 0\nsame 0")?;
+    expect_rejected(&rt, rt.alloc(), &twice)?;
+    let too_many = text_with(rt.alloc(), 23, b"same 0\nsame 0")?;
+    expect_rejected(&rt, rt.alloc(), &too_many)?;
+    Ok(())
+}
+
+/// The line with `more` before the first byte `mark` in it.
+fn spelled(alloc: Global, line: &[u8], mark: u8, more: &[u8]) -> Result<Bytes, Fail> {
+    let mut text = Bytes::new(alloc);
+    let mut is_first = true;
+    for byte in line {
+        if is_first && *byte == mark {
+            text.extend_from_slice(more)?;
+            is_first = false;
+        }
+        text.extend_from_slice(&[*byte])?;
+    }
+    Ok(text)
+}
+
+/// The line with `more` after it.
+fn followed(alloc: Global, line: &[u8], more: &[u8]) -> Result<Bytes, Fail> {
+    let mut text = Bytes::new(alloc);
+    text.extend_from_slice(line)?;
+    text.extend_from_slice(more)?;
+    Ok(text)
+}
+
+#[test]
+fn another_spelling_is_rejected(rt: HostRuntime) -> Result<(), Fail> {
+    let alloc = rt.alloc();
+    for (place, line) in LINES.iter().enumerate() {
+        let zero = if line.contains(&b'0') { b'0' } else { b'1' };
+        let leading_zero = spelled(alloc, line, zero, b"0")?;
+        expect_rejected(&rt, alloc, &text_with(alloc, place, leading_zero.as_slice())?)?;
+        let doubled_space = spelled(alloc, line, b' ', b" ")?;
+        expect_rejected(&rt, alloc, &text_with(alloc, place, doubled_space.as_slice())?)?;
+        let trailing_space = followed(alloc, line, b" ")?;
+        expect_rejected(&rt, alloc, &text_with(alloc, place, trailing_space.as_slice())?)?;
+        let carriage_return = followed(alloc, line, b"\r")?;
+        expect_rejected(&rt, alloc, &text_with(alloc, place, carriage_return.as_slice())?)?;
+    }
+    Ok(())
 }
 
 /// The words are no plain line.

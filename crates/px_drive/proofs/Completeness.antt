@@ -1,0 +1,119 @@
+-- A line whose work can be done is done, where no count of faults rose.
+use Rattle.std.proofs.Common.{◌≡◌, ◌≤◌, ℕ, ◌⊎◌, List, length, Option, None, Some, Result, Ok, Err, inl, inr, refl, ap, subst, sym, ◌∙◌, arith}
+use Rattle.px_terms.specs.declared.program.Program.{Program}
+use Rattle.px_terms.specs.Spelling.{IsDerivationText}
+use Rattle.px_world.specs.Known.{Told, IsLonger}
+use Rattle.px_world.specs.Faults.{Rose}
+use Rattle.px_replay.specs.Thin.{IsThinSource}
+use Rattle.px_drive.specs.declared.outcome.CommandLine.{CommandLine}
+use Rattle.px_drive.specs.declared.outcome.CommandLine.TheVariants.{Replay}
+use Rattle.px_drive.specs.declared.outcome.Which.{Which}
+use Rattle.px_drive.specs.declared.outcome.Which.TheVariants as which
+use Rattle.px_drive.specs.declared.outcome.End.{End}
+use Rattle.px_drive.specs.declared.outcome.End.TheVariants.{Done, Usage, Source, Rejected, ReadFault, WriteFault, NoMemory, TooLong}
+use Rattle.px_drive.specs.declared.outcome.SourceFault.TheVariants.{Unbuilt}
+use Rattle.px_drive.specs.declared.outcome.Outcome.{Outcome}
+use Rattle.px_drive.specs.Lines.{line_of}
+use Rattle.px_drive.specs.Messages.{accepted_line}
+use Rattle.px_drive.specs.Seen.{FilesSeen, SinkSeen}
+use Rattle.px_drive.specs.Ends.{limit_of, ReadsText, Sources, Accepts, Prints, AndThen, LineEnds}
+use Rattle.px_drive.specs.Answers.{EndsUnread, Ends, Tells, IsAnswer}
+use Rattle.px_drive.specs.Completeness.{NoneRose, HasText, CanBeDone, replayed, IsDone}
+use Rattle.px_drive.proofs.Causes.{longer}
+
+told_is : (known : Option (List ℕ)) (text bytes : List ℕ) → known ≡ Some text → Told known bytes → bytes ≡ text
+told_is None text bytes known told = cc
+told_is (Some whole) text bytes known told = told ∙ (let same : whole ≡ text = cc in same)
+
+not_longer : (known : Option (List ℕ)) (text : List ℕ) (limit : ℕ) → known ≡ Some text → length text ≤ limit → IsLonger known limit → ⊥
+not_longer None text limit known fits above = cc
+not_longer (Some whole) text limit known fits above = let same : whole ≡ text = cc in omega (arith, ap length same)
+
+-- a text that is told and within its limit is read whole, but for want of memory
+read_whole : (text : Which) (files : FilesSeen) (name bytes : List ℕ) (result : Result (List ℕ) End) → HasText files text name bytes → ¬ Rose files.before files.after → ReadsText text files name result → (result ≡ Ok bytes) ⊎ (result ≡ Err NoMemory)
+read_whole text files name bytes (Ok read) has calm reads = inl (ap Ok (told_is (files.bytes name) bytes read has.told reads.0))
+read_whole text files name bytes (Err (TooLong long)) has calm (is, (came, consumed, above)) = absurd (not_longer (files.bytes name) bytes (limit_of text) has.told has.fits (longer (files.bytes name) files.left came (limit_of text) consumed above))
+read_whole text files name bytes (Err ReadFault) has calm reads = absurd (calm reads.0)
+read_whole text files name bytes (Err NoMemory) has calm reads = inr refl
+read_whole text files name bytes (Err Done) has calm reads = absurd reads
+read_whole text files name bytes (Err Usage) has calm reads = absurd reads
+read_whole text files name bytes (Err (Source fault)) has calm reads = absurd reads
+read_whole text files name bytes (Err Rejected) has calm reads = absurd reads
+read_whole text files name bytes (Err WriteFault) has calm reads = absurd reads
+
+no_memory : (end : End) (bytes : List ℕ) → ((Err end ≡ Ok bytes) ⊎ (Err end ≡ Err NoMemory)) → end ≡ NoMemory
+no_memory end bytes (inl is) = cc
+no_memory end bytes (inr is) = cc
+
+same_bytes : (read bytes : List ℕ) → ((Ok {E = End} read ≡ Ok bytes) ⊎ (Ok {E = End} read ≡ Err NoMemory)) → read ≡ bytes
+same_bytes read bytes (inl is) = cc
+same_bytes read bytes (inr is) = cc
+
+source_ends : (bytes : List ℕ) (end : End) → Sources bytes (Err end) → IsDone end
+source_ends bytes (Source Unbuilt) h = inr (inr refl)
+source_ends bytes NoMemory h = inr (inl refl)
+source_ends bytes Done h = absurd h
+source_ends bytes Usage h = absurd h
+source_ends bytes Rejected h = absurd h
+source_ends bytes ReadFault h = absurd h
+source_ends bytes WriteFault h = absurd h
+source_ends bytes (TooLong text) h = absurd h
+
+accepts_ends : (program : Program) (bytes : List ℕ) (end : End) → IsDerivationText program bytes → Accepts program bytes (Err end) → IsDone end
+accepts_ends program bytes Rejected derivation h = absurd (h derivation)
+accepts_ends program bytes NoMemory derivation h = inr (inl refl)
+accepts_ends program bytes Done derivation h = absurd h
+accepts_ends program bytes Usage derivation h = absurd h
+accepts_ends program bytes (Source fault) derivation h = absurd h
+accepts_ends program bytes ReadFault derivation h = absurd h
+accepts_ends program bytes WriteFault derivation h = absurd h
+accepts_ends program bytes (TooLong text) derivation h = absurd h
+
+prints_ends : (line : List ℕ) (out : SinkSeen) (end : End) (printed : List ℕ) → ¬ Rose out.before out.after → Prints line out end printed → IsDone end
+prints_ends line out Done printed calm h = inl refl
+prints_ends line out WriteFault printed calm h = absurd (calm h.0)
+prints_ends line out NoMemory printed calm h = absurd h
+prints_ends line out Usage printed calm h = absurd h
+prints_ends line out (Source fault) printed calm h = absurd h
+prints_ends line out Rejected printed calm h = absurd h
+prints_ends line out ReadFault printed calm h = absurd h
+prints_ends line out (TooLong text) printed calm h = absurd h
+
+module _ (files : FilesSeen) (out : SinkSeen) (calm : ¬ Rose files.before files.after) (calm_out : ¬ Rose out.before out.after) where
+  replay_done : (file derivation text steps : List ℕ) (end : End) (printed : List ℕ) → HasText files which.Program file text → HasText files which.Derivation derivation steps → ((program : Program) → IsThinSource text program → IsDerivationText program steps) → LineEnds files out (Replay file derivation) end printed → IsDone end
+  replay_done file derivation text steps end printed has_text has_steps derives (inl (reads, _)) = inr (inl (no_memory end text (read_whole which.Program files file text (Err end) has_text calm reads)))
+  replay_done file derivation text steps end printed has_text has_steps derives (inr (read, _, inl (source, _))) = source_ends read end source
+  replay_done file derivation text steps end printed has_text has_steps derives (inr (read, _, inr (program, _, inl (reads, _)))) = inr (inl (no_memory end steps (read_whole which.Derivation files derivation steps (Err end) has_steps calm reads)))
+  replay_done file derivation text steps end printed has_text has_steps derives (inr (read, reads, inr (program, source, inr (rows, rows_read, inl (accepts, _))))) =
+      let text_is : read ≡ text = same_bytes read text (read_whole which.Program files file text (Ok read) has_text calm reads) in
+      let steps_is : rows ≡ steps = same_bytes rows steps (read_whole which.Derivation files derivation steps (Ok rows) has_steps calm rows_read) in
+      accepts_ends program rows end (subst (IsDerivationText program) (sym steps_is) (derives program (subst (λ (bytes : List ℕ). IsThinSource bytes program) text_is source))) accepts
+  replay_done file derivation text steps end printed has_text has_steps derives (inr (read, _, inr (program, _, inr (rows, _, inr (n, _, prints))))) = prints_ends (accepted_line n) out end printed calm_out prints
+
+  line_done : (line : CommandLine) (end : End) (printed : List ℕ) → CanBeDone files line → LineEnds files out line end printed → IsDone end
+  line_done _ end printed (replayed {file = file} {derivation = derivation} text steps has_text has_steps derives) ends = replay_done file derivation text steps end printed has_text has_steps derives ends
+
+unread_done : (words : List (List ℕ)) (line : CommandLine) (end : End) → line_of words ≡ Some line → EndsUnread words end → IsDone end
+unread_done words line Usage is none = cc
+unread_done words line NoMemory is h = inr (inl refl)
+unread_done words line Done is h = absurd h
+unread_done words line (Source fault) is h = absurd h
+unread_done words line Rejected is h = absurd h
+unread_done words line ReadFault is h = absurd h
+unread_done words line WriteFault is h = absurd h
+unread_done words line (TooLong text) is h = absurd h
+
+allowed_done : (words : List (List ℕ)) (files : FilesSeen) (out err : SinkSeen) (kept : Option CommandLine) (end : End) (line : CommandLine) → NoneRose files out err → line_of words ≡ Some line → CanBeDone files line → Ends words files out kept end → IsDone end
+allowed_done words files out err None end line calm is can ends = unread_done words line end is ends.0
+allowed_done words files out err (Some kept) end line calm is can ends =
+    let same : kept ≡ line = let both : Some kept ≡ Some line = sym ends.0 ∙ is in cc in
+    line_done files out calm.files_rest calm.out_rests kept end ends.1.printed (subst (CanBeDone files) (sym same) can) ends.1.allowed
+
+told_stays : (told : End) (err : SinkSeen) (end : End) → ¬ Rose err.before err.after → Tells told err end → end ≡ told
+told_stays told err end calm (inl tells) = tells.0
+told_stays told err end calm (inr tells) = absurd (calm tells.2.0)
+
+-- a plain line whose work can be done ends Done where no count rose, but for want of memory and a program that is not read
+pub answer_done : (words : List (List ℕ)) (files : FilesSeen) (out err : SinkSeen) (outcome : Outcome) → IsAnswer words files out err outcome → (line : CommandLine) → line_of words ≡ Some line → CanBeDone files line → NoneRose files out err → IsDone outcome.end
+answer_done words files out err outcome answer line is can calm =
+    subst IsDone (sym (told_stays answer.told err outcome.end calm.err_rests answer.tells)) (allowed_done words files out err outcome.line answer.told line calm is can answer.allowed)

@@ -1,0 +1,34 @@
+-- Where a line does its work: what is enough for it to end Done.
+use Rattle.std.specs.Prelude.{◌≡◌, ◌≤◌, ◌⊎◌, ℕ, List, length, Some}
+use Rattle.px_terms.specs.declared.program.Program.{Program}
+use Rattle.px_terms.specs.Spelling.{IsDerivationText}
+use Rattle.px_world.specs.Faults.{Rose}
+use Rattle.px_replay.specs.Thin.{IsThinSource}
+use Rattle.px_drive.specs.declared.outcome.CommandLine.{CommandLine}
+use Rattle.px_drive.specs.declared.outcome.CommandLine.TheVariants.{Replay}
+use Rattle.px_drive.specs.declared.outcome.Which.{Which}
+use Rattle.px_drive.specs.declared.outcome.Which.TheVariants as which
+use Rattle.px_drive.specs.declared.outcome.End.{End}
+use Rattle.px_drive.specs.declared.outcome.End.TheVariants.{Done, Source, NoMemory}
+use Rattle.px_drive.specs.declared.outcome.SourceFault.TheVariants.{Unbuilt}
+use Rattle.px_drive.specs.Seen.{FilesSeen, SinkSeen}
+use Rattle.px_drive.specs.Ends.{limit_of}
+
+-- no count of faults rose in the call
+pub record NoneRose (files : FilesSeen) (out err : SinkSeen) : Type 0 where
+  pub files_rest : ¬ Rose files.before files.after
+  pub out_rests : ¬ Rose out.before out.after
+  pub err_rests : ¬ Rose err.before err.after
+
+-- the files tell a text of this name that is within its limit
+pub record HasText (files : FilesSeen) (which : Which) (name text : List ℕ) : Type 0 where
+  pub told : files.bytes name ≡ Some text
+  pub fits : length text ≤ limit_of which
+
+-- the line's texts are told and within their limits, and they ask for work that can be done: a row for each command
+pub data CanBeDone (files : FilesSeen) : CommandLine → Type 0 where
+  replayed : {file derivation : List ℕ} (text steps : List ℕ) → HasText files which.Program file text → HasText files which.Derivation derivation steps → ((program : Program) → IsThinSource text program → IsDerivationText program steps) → CanBeDone files (Replay file derivation)
+
+-- the work is done, but for want of memory and for a program that is not read
+abbrev pub IsDone : End → Type 0
+IsDone end = (end ≡ Done) ⊎ ((end ≡ NoMemory) ⊎ (end ≡ Source Unbuilt))
