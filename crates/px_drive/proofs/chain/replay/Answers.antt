@@ -7,7 +7,7 @@ use Rattle.px_drive.proofs.chain.replay.Goals as goal
 pub returns-in-Err-read_source-clause-runs : goal.returns-in-Err-read_source-clause-runs
 returns-in-Err-read_source-clause-runs g c = record {
   printed = [];
-  allowed = inr (_, c.in-Ok.ensures.reads, inl (c.in-Err-read_source.ensures, refl));
+  allowed = inr (_, c.in-Ok.ensures.reads, inl (c.in-Err-read_source.ensures.source, refl));
   wrote = Appends-nil _;
 }
 
@@ -19,7 +19,7 @@ returns-in-Err-read_text-clause-runs g c = record {
     c.in-Ok.ensures.reads,
     inr (
       _,
-      c.in-Ok-read_source.ensures,
+      c.in-Ok-read_source.ensures.source,
       inl (
         ReadsText-later Derivation _ _ (g.F.Files.is_open c.read_text-2.new.files) (g.F.Files.rest c.read_text-2.new.files) _ _ (g.F.Files.faults c.read_text-2.new.files)
             c.args.derivation.now (Err c.in-Err-read_text.end) c.read_text.ensures.texts c.read_text.ensures.later c.in-Err-read_text.ensures.reads,
@@ -38,7 +38,7 @@ returns-in-Err-accept-clause-runs g c = record {
     c.in-Ok.ensures.reads,
     inr (
       _,
-      c.in-Ok-read_source.ensures,
+      c.in-Ok-read_source.ensures.source,
       inr (
         _,
         ReadsText-later Derivation _ _ (g.F.Files.is_open c.read_text-2.new.files) (g.F.Files.rest c.read_text-2.new.files) _ _ (g.F.Files.faults c.read_text-2.new.files)
@@ -58,7 +58,7 @@ returns-in-Ok-print_accepted-clause-runs g c = record {
     c.in-Ok.ensures.reads,
     inr (
       _,
-      c.in-Ok-read_source.ensures,
+      c.in-Ok-read_source.ensures.source,
       inr (
         _,
         ReadsText-later Derivation _ _ (g.F.Files.is_open c.read_text-2.new.files) (g.F.Files.rest c.read_text-2.new.files) _ _ (g.F.Files.faults c.read_text-2.new.files)
@@ -78,7 +78,7 @@ returns-clause-runs g c = let front = c.in-Err-print_accepted.ensures.prefix in 
     c.in-Ok.ensures.reads,
     inr (
       _,
-      c.in-Ok-read_source.ensures,
+      c.in-Ok-read_source.ensures.source,
       inr (
         _,
         ReadsText-later Derivation _ _ (g.F.Files.is_open c.read_text-2.new.files) (g.F.Files.rest c.read_text-2.new.files) _ _ (g.F.Files.faults c.read_text-2.new.files)
