@@ -1,12 +1,8 @@
 use crate::evaluate;
-use px_replay::read_thin;
-use px_terms::{Fun, Head, Term, Value};
+use px_terms::{ConDef, DataDef, Def, Fun, Head, Names, Program, Term, Ty, Value};
 use sqlite_items::{Boxed, Items};
 use std::alloc::{AllocError, Global};
 use std::test::Fail;
-
-const OR: &[u8] =
-    b"def or(a: Bool, b: Bool): Bool with comm, idem { match a { False => b, True => True } }";
 
 const DEEP: u32 = 100;
 
@@ -17,6 +13,67 @@ fn truth(alloc: Global, con: u32) -> Term {
         types: Items::new(alloc),
         fields: Items::new(alloc),
     }
+}
+
+fn bool_type(alloc: Global) -> Ty {
+    Ty::Con {
+        datatype: 0,
+        args: Items::new(alloc),
+    }
+}
+
+fn constructor(alloc: Global) -> ConDef {
+    ConDef {
+        fields: Items::new(alloc),
+    }
+}
+
+/// `def or(a: Bool, b: Bool): Bool { match a { False => b, True => True } }`
+fn or_definition(alloc: Global) -> Result<Def, Fail> {
+    let mut params = Items::new(alloc);
+    params.push(bool_type(alloc))?;
+    params.push(bool_type(alloc))?;
+    let mut arms = Items::new(alloc);
+    arms.push(Term::Free(1))?;
+    arms.push(truth(alloc, 1))?;
+    Ok(Def {
+        tparams: 0,
+        funs: Items::new(alloc),
+        params,
+        result: bool_type(alloc),
+        body: Term::Match {
+            on: Boxed::new(alloc, Term::Free(0))?,
+            datatype: 0,
+            types: Items::new(alloc),
+            arms,
+        },
+        seen: 0,
+    })
+}
+
+/// The program of that definition, without names and obligations, which no meaning looks at.
+fn or_program(alloc: Global) -> Result<Program, Fail> {
+    let mut cons = Items::new(alloc);
+    cons.push(constructor(alloc))?;
+    cons.push(constructor(alloc))?;
+    let mut datatypes = Items::new(alloc);
+    datatypes.push(DataDef { tparams: 0, cons })?;
+    let mut defs = Items::new(alloc);
+    defs.push(or_definition(alloc)?)?;
+    Ok(Program {
+        datatypes,
+        defs,
+        lemmas: Items::new(alloc),
+        declared: Items::new(alloc),
+        replicas: Items::new(alloc),
+        names: Names {
+            datatypes: Items::new(alloc),
+            cons: Items::new(alloc),
+            defs: Items::new(alloc),
+            lemmas: Items::new(alloc),
+            replicas: Items::new(alloc),
+        },
+    })
 }
 
 fn or(alloc: Global, left: Term, right: Term) -> Result<Term, AllocError> {
@@ -35,7 +92,7 @@ fn or(alloc: Global, left: Term, right: Term) -> Result<Term, AllocError> {
 
 /// The number of the constructor that a closed term means, with its calls; None where it has no value.
 fn found(alloc: Global, term: &Term, fuel: u32) -> Result<Option<(u32, u64)>, Fail> {
-    let program = read_thin(alloc, OR)?;
+    let program = or_program(alloc)?;
     let values: Items<Value> = Items::new(alloc);
     let Some(found) = evaluate(alloc, &program, fuel, values.as_slice(), term)? else {
         return Ok(None);
