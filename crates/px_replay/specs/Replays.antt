@@ -14,6 +14,7 @@ use Rattle.px_terms.specs.Sequents.{side_of, IsWithinLimits, frame_put}
 use Rattle.px_terms.specs.Steps.{Step}
 use Rattle.px_terms.specs.Derivations.{Opens, Leads, Tree, DerivesObligation, rows_of}
 use Rattle.px_terms.specs.Spelling.{line_of, lines_of, rows_from}
+use Rattle.px_terms.specs.Readable.{IsReadable}
 
 -- the sequent with a term put in for a variable, which is no longer live
 abbrev pub put_case : Sequent → ℕ → Term → Sequent
@@ -60,11 +61,13 @@ pub record Opened (P : Program) (n : ℕ) (s : Sequent) (r : Row) (old new : Lis
 pub record ReplaysRow (P : Program) (n : ℕ) (s : Sequent) (old new : List Open) (text rest : List ℕ) : Type 0 where
   pub row : Row
   pub opened : Opened P n s row old new
+  pub readable : IsReadable row
   pub line : text ≡ line_of row ++ 10 ∷ rest
 
 -- The text begins with rows that lead from the first sequent to this stack, and then comes the rest.
 pub record HasReplayed (P : Program) (n : ℕ) (first : Sequent) (stack : List Open) (text rest : List ℕ) : Type 0 where
   pub rows : List Row
+  pub readable : All IsReadable rows
   pub leads : Leads P n (first ∷ []) rows (sequents_of stack)
   pub lines : text ≡ lines_of rows ++ rest
 
@@ -72,6 +75,7 @@ pub record HasReplayed (P : Program) (n : ℕ) (first : Sequent) (stack : List O
 pub record ReplaysObligation (P : Program) (n : ℕ) (text rest : List ℕ) : Type 0 where
   pub tree : Tree
   pub derives : DerivesObligation P n tree
+  pub readable : All IsReadable (row.Header n tree.on ∷ rows_of tree.root)
   pub lines : text ≡ lines_of (row.Header n tree.on ∷ rows_of tree.root) ++ rest
 
 -- The text begins with trees that derive the obligations below n, and then comes the rest.
@@ -79,4 +83,5 @@ pub record ReplaysBelow (P : Program) (n : ℕ) (text rest : List ℕ) : Type 0 
   pub trees : List Tree
   pub count : length trees ≡ n
   pub each : (i : ℕ) (tree : Tree) → slice_get trees i ≡ Some tree → DerivesObligation P i tree
+  pub readable : All IsReadable (rows_from 0 trees)
   pub lines : text ≡ lines_of (rows_from 0 trees) ++ rest
