@@ -50,6 +50,16 @@ reverse-map : {X Y : Type 0} (f : X → Y) (xs : List X) → reverse (map f (rev
 reverse-map f [] = refl
 reverse-map {X} {Y} f (x ∷ xs) = ap (λ (ys : List X). reverse (map f ys)) (reverse-cons x xs) ∙ (ap (λ (ys : List Y). reverse ys) (map-append f (reverse xs) (x ∷ [])) ∙ (reverse-push (map f (reverse xs)) (f x) ∙ ap (λ (ys : List Y). f x ∷ ys) (reverse-map f xs)))
 
+-- the sequents of a stack onto which children were put
+pub pushed_sequents : (popped : List Open) (children : List Sequent) → sequents_of (popped ++ map child_within (reverse children)) ≡ children ++ sequents_of popped
+pushed_sequents popped children =
+    let turned : reverse (popped ++ map child_within (reverse children)) ≡ map child_within children ++ reverse popped = reverse-append popped (map child_within (reverse children)) ∙ ap (λ (os : List Open). os ++ reverse popped) (reverse-map child_within children) in
+    ap (λ (os : List Open). map (λ (o : Open). o.sequent) os) turned ∙ (map-append (λ (o : Open). o.sequent) (map child_within children) (reverse popped) ∙ ap (λ (ss : List Sequent). ss ++ sequents_of popped) (sequents_of-children children))
+
+-- the sequents of a stack, the top one apart
+pub top_sequent : (stack popped : List Open) (top : Open) → stack ≡ popped ++ top ∷ [] → sequents_of stack ≡ top.sequent ∷ sequents_of popped
+top_sequent stack popped top split = ap (λ (os : List Open). map (λ (o : Open). o.sequent) os) (ap (λ (os : List Open). reverse os) split ∙ reverse-push popped top)
+
 -- children that are within the limits are rightly marked
 all_marked : (ss : List Sequent) → All IsWithinLimits ss → All IsRightlyMarked (map child_within ss)
 all_marked [] all = All-nil IsRightlyMarked
@@ -63,9 +73,8 @@ begins_replay P n first text = record { rows = []; readable = All-nil IsReadable
 pub goes_on_replay : (P : Program) (n : ℕ) (first : Sequent) (stack popped new : List Open) (top : Open) (text rest later : List ℕ) → stack ≡ popped ++ top ∷ [] → HasReplayed P n first stack text rest → ReplaysRow P n top.sequent popped new rest later → HasReplayed P n first new text later
 goes_on_replay P n first stack popped new top text rest later split so_far one =
     let children = one.opened.children in
-    let here : sequents_of stack ≡ top.sequent ∷ sequents_of popped = ap (λ (os : List Open). map (λ (o : Open). o.sequent) os) (ap (λ (os : List Open). reverse os) split ∙ reverse-push popped top) in
-    let turned : reverse new ≡ map child_within children ++ reverse popped = ap (λ (os : List Open). reverse os) one.opened.stack ∙ (reverse-append popped (map child_within (reverse children)) ∙ ap (λ (os : List Open). os ++ reverse popped) (reverse-map child_within children)) in
-    let onto : sequents_of new ≡ children ++ sequents_of popped = ap (λ (os : List Open). map (λ (o : Open). o.sequent) os) turned ∙ (map-append (λ (o : Open). o.sequent) (map child_within children) (reverse popped) ∙ ap (λ (ss : List Sequent). ss ++ sequents_of popped) (sequents_of-children children)) in
+    let here : sequents_of stack ≡ top.sequent ∷ sequents_of popped = top_sequent stack popped top split in
+    let onto : sequents_of new ≡ children ++ sequents_of popped = ap sequents_of one.opened.stack ∙ pushed_sequents popped children in
     record {
       rows = so_far.rows ++ one.row ∷ [];
       readable = All-push IsReadable so_far.rows one.row so_far.readable one.readable;
@@ -84,7 +93,7 @@ row_takes P n s old new rest later one =
     omega (arith, e)
 
 -- the text of a row before others
-lines-cons : (h : Row) (rows : List Row) (rest : List ℕ) → line_of h ++ 10 ∷ (lines_of rows ++ rest) ≡ lines_of (h ∷ rows) ++ rest
+pub lines-cons : (h : Row) (rows : List Row) (rest : List ℕ) → line_of h ++ 10 ∷ (lines_of rows ++ rest) ≡ lines_of (h ∷ rows) ++ rest
 lines-cons h rows rest = sym (append_assoc (line_of h ++ 10 ∷ []) (lines_of rows) rest ∙ append_assoc (line_of h) (10 ∷ []) (lines_of rows ++ rest))
 
 -- the header and the rows of a tree were replayed

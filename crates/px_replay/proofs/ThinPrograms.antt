@@ -96,7 +96,7 @@ def_length (IsThinDef.written w n l ps r c b props o body close lawful whole) =
     let h = with_length props in
     rw whole (simp length-append (omega (arith, h)))
 
-defs_length : {text : List ℕ} {tokens : List Token} {ds : List ThinDef} (n : ℕ) → AreThinDefs text tokens ds → length ds + length (declared_from n ds) ≤ length tokens
+pub defs_length : {text : List ℕ} {tokens : List Token} {ds : List ThinDef} (n : ℕ) → AreThinDefs text tokens ds → length ds + length (declared_from n ds) ≤ length tokens
 defs_length n AreThinDefs.none = omega arith
 defs_length n (AreThinDefs.more {d = d} is rest whole) =
     let h = def_length is in let k = defs_length (n + 1) rest in

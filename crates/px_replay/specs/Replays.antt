@@ -1,5 +1,6 @@
 -- What replay has done so far: the stack of open sequents, the rows that led to it, and the text that they are.
-use Rattle.std.specs.Prelude.{◌≡◌, ℕ, List, [], ◌∷◌, ◌++◌, length, map, reverse, slice_get, slice_set, Some, None, All, IsTrue, true}
+use Rattle.std.specs.Prelude.{◌≡◌, ℕ, List, [], ◌∷◌, ◌++◌, length, map, reverse, slice_get, Option, Some, All, IsTrue, true}
+use Rattle.px_terms.specs.declared.types.Ty.{Ty}
 use Rattle.px_terms.specs.declared.term.Term.{Term}
 use Rattle.px_terms.specs.declared.clause.Equation.{Equation}
 use Rattle.px_terms.specs.declared.program.Program.{Program}
@@ -16,14 +17,14 @@ use Rattle.px_terms.specs.Derivations.{Opens, Leads, Tree, DerivesObligation, ro
 use Rattle.px_terms.specs.Spelling.{line_of, lines_of, rows_from}
 use Rattle.px_terms.specs.Readable.{IsReadable}
 
--- the sequent with a term put in for a variable, which is no longer live
-abbrev pub put_case : Sequent → ℕ → Term → Sequent
-put_case s v by = record {
-  context = record { tparams = s.context.tparams; funs = s.context.funs; vars = slice_set s.context.vars v None };
+-- the sequent with a term put in for a variable, and these variables
+abbrev pub put_case : Sequent → List (Option Ty) → ℕ → ℕ → Term → Sequent
+put_case s vars next v by = record {
+  context = record { tparams = s.context.tparams; funs = s.context.funs; vars = vars };
   frame = frame_put v by s.frame;
   facts = equations_put v by s.facts;
   alternatives = equations_put v by s.alternatives;
-  next = s.next;
+  next = next;
 }
 
 -- The sides of an alternative are one term.
@@ -36,7 +37,7 @@ pub record SidesAreOne (s : Sequent) (at : ℕ) : Type 0 where
 pub record StepsSide (P : Program) (s : Sequent) (at : ℕ) (side : Side) (path : List ℕ) (kind : Kind) (t : Term) : Type 0 where
   pub equation : Equation
   pub found : slice_get s.alternatives at ≡ Some equation
-  pub step : (facts : List Equation) → Step P facts (side_of equation side) path kind t
+  pub step : Step P s.facts (side_of equation side) path kind t
 
 -- Where an open sequent is marked as within the limits, it is.
 pub record IsRightlyMarked (o : Open) : Type 0 where
