@@ -1,5 +1,5 @@
 -- An obligation has one clause, and what it says of the definition.
-use Rattle.std.proofs.Common.{◌≡◌, ◌<◌, ◌≤◌, ◌+◌, ◌-◌, ◌^◌, ◌⊎◌, inl, inr, ℕ, suc, List, [], ◌∷◌, ◌++◌, length, take, get_or, slice_get, Some, None, refl, sym, ap, subst, ◌∙◌, arith, length-append}
+use Rattle.std.proofs.Common.{◌≡◌, ◌<◌, ◌≤◌, ◌+◌, ◌^◌, ◌⊎◌, inl, inr, ℕ, suc, List, [], ◌∷◌, ◌++◌, length, slice_get, Some, None, refl, sym, ap, subst, ◌∙◌, arith, length-append}
 use Rattle.px_terms.specs.declared.types.Ty.{Ty}
 use Rattle.px_terms.specs.declared.types.FnType.{FnType}
 use Rattle.px_terms.specs.declared.types.Prop.{Prop}
@@ -13,7 +13,6 @@ use Rattle.px_terms.specs.declared.program.Program.{Program}
 use Rattle.px_terms.specs.Clauses.{Shape, HasShape, IsClause, comm, idem, comm_clause, idem_clause}
 use Rattle.px_terms.specs.Obligations.{IsDeclaredClause, of_property, of_lemma, lemma_clause}
 use Rattle.px_replay.specs.Numbered.{HasNumberedVariables}
-use Rattle.px_replay.proofs.RowLemmas.{two_last}
 
 -- what is found is one
 pub found_one : {A : Type 0} (xs : List A) (n : ℕ) (a b : A) → slice_get xs n ≡ Some a → slice_get xs n ≡ Some b → a ≡ b

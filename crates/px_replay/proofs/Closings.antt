@@ -1,6 +1,5 @@
 -- Rows that close all open sequents: what completes the stack before a row completes it after.
-use Rattle.std.proofs.Common.{◌≡◌, ◌<◌, ◌+◌, ◌^◌, ℕ, zero, suc, List, [], ◌∷◌, ◌++◌, length, map, reverse, slice_get, Some, None, All, refl, sym, ap, subst, ◌∙◌, append_assoc, append-nil, add-zero, zero-add, arith}
-use Rattle.std.proofs.lemmas.List.{reverse-append, map-append}
+use Rattle.std.proofs.Common.{◌≡◌, ◌<◌, ◌+◌, ℕ, suc, List, [], ◌∷◌, ◌++◌, length, map, reverse, slice_get, Some, All, refl, sym, ap, subst, ◌∙◌, add-zero, zero-add, arith}
 use Rattle.std.proofs.lemmas.List.Elements.{All-nil, All-cons, All-head, All-tail}
 use Rattle.std.proofs.lemmas.Grind.{flat_map-append}
 use Rattle.px_terms.specs.declared.clause.Clause.{Clause}
@@ -10,14 +9,14 @@ use Rattle.px_terms.specs.declared.sequent.Sequent.{Sequent}
 use Rattle.px_terms.specs.declared.row.Row.{Row}
 use Rattle.px_terms.specs.declared.row.Row.TheVariants as row
 use Rattle.px_terms.specs.declared.term.Term.TheVariants as term
-use Rattle.px_terms.specs.Obligations.{IsObligation, IsDeclaredClause}
+use Rattle.px_terms.specs.Obligations.{IsDeclaredClause}
 use Rattle.px_terms.specs.Sequents.{IsWithinLimits, first_sequent, own_frame}
-use Rattle.px_terms.specs.Derivations.{Opens, Leads, stays, goes_on, Node, Tree, Derives, DerivesObligation, StackIsTree, rows_of, same, step, case}
+use Rattle.px_terms.specs.Derivations.{Opens, Leads, goes_on, Tree, DerivesObligation, StackIsTree, rows_of, same, step, case}
 use Rattle.px_terms.specs.Readable.{IsReadable}
 use Rattle.px_terms.specs.Spelling.{line_of, lines_of, rows_from, IsDerivationText}
 use Rattle.px_replay.specs.declared.opened.Open.{Open}
 use Rattle.px_replay.specs.Numbered.{HasNumbers, HasNumberedVariables}
-use Rattle.px_replay.specs.Replays.{child_within, sequents_of, Opened, ReplaysRow, HasReplayed, ReplaysObligation}
+use Rattle.px_replay.specs.Replays.{child_within, sequents_of, ReplaysRow, HasReplayed, ReplaysObligation}
 use Rattle.px_replay.proofs.ReplayLemmas.{lines-cons, pushed_sequents, top_sequent}
 use Rattle.px_replay.proofs.ClauseLemmas.{one_clause, found_one}
 

@@ -1,5 +1,5 @@
 -- The numbers from one on, with one more at the end.
-use Rattle.std.proofs.Common.{◌≡◌, ℕ, zero, suc, ◌+◌, List, [], ◌∷◌, ◌++◌, map, refl, ap, sym, ◌∙◌, arith, add-one, add-zero, zero-add}
+use Rattle.std.proofs.Common.{◌≡◌, ℕ, zero, suc, ◌+◌, List, [], ◌∷◌, ◌++◌, map, ap, sym, ◌∙◌, arith, add-one, add-zero, zero-add}
 use Rattle.std.proofs.lemmas.List.{map-append}
 use Rattle.px_terms.specs.Clauses.{numbers_from}
 

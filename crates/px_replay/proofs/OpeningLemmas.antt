@@ -1,5 +1,5 @@
 -- What a row that opens a sequent needs.
-use Rattle.std.proofs.Common.{◌≡◌, ◌<◌, ◌+◌, ℕ, suc, List, [], ◌∷◌, ◌++◌, length, drop, get_or, slice_get, slice_set, map, Option, Some, None, IfSome, refl, sym, ap, subst, ◌∙◌, add-one, All}
+use Rattle.std.proofs.Common.{◌≡◌, ◌<◌, ◌+◌, ℕ, suc, List, [], ◌∷◌, ◌++◌, length, drop, get_or, slice_get, slice_set, map, Option, Some, None, IfSome, sym, ap, subst, ◌∙◌, All}
 use Rattle.std.proofs.Math.Seq.{drop-cons}
 use Rattle.std.proofs.lemmas.List.Elements.{All-head, All-tail}
 use Rattle.px_terms.specs.declared.types.Ty.{Ty, out-Ty}
@@ -17,7 +17,6 @@ use Rattle.px_terms.specs.declared.program.Program.{Program}
 use Rattle.px_terms.specs.declared.sequent.Sequent.{Sequent}
 use Rattle.px_terms.specs.declared.row.Side.{Side}
 use Rattle.px_terms.specs.declared.row.Kind.{Kind}
-use Rattle.px_terms.specs.declared.row.Target.{Target}
 use Rattle.px_terms.specs.declared.row.Target.TheVariants as target
 use Rattle.px_terms.specs.declared.row.Row.{Row}
 use Rattle.px_terms.specs.declared.row.Row.TheVariants as row

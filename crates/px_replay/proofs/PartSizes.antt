@@ -1,11 +1,8 @@
 -- A part is no larger than the term that it is put into.
-use Rattle.std.proofs.Common.{◌≡◌, ◌≤◌, ◌<◌, ◌+◌, ℕ, zero, suc, List, [], ◌∷◌, map, sum, length, Some, None, Option, refl, sym, ap, subst, ◌∙◌, arith, slice_get, slice_set, option_and_then}
+use Rattle.std.proofs.Common.{◌≡◌, ◌≤◌, ◌+◌, ℕ, zero, suc, List, [], ◌∷◌, map, Some, None, Option, refl, ap, arith, slice_get, slice_set, option_and_then}
 use Rattle.std.specs.Option.{option_map}
 use Rattle.std.proofs.lemmas.List.Sums.{sum_by-cons}
-use Rattle.px_terms.specs.declared.types.Ty.{Ty}
-use Rattle.px_terms.specs.declared.types.Fun.{Fun}
 use Rattle.px_terms.specs.declared.term.Term.{Term, out-Term}
-use Rattle.px_terms.specs.declared.term.Term.TheVariants.{Con, Call, Match}
 use Rattle.px_terms.specs.declared.term.Term.TheOpen.{Term-F}
 use Rattle.px_terms.specs.Terms.{term_size, terms_size, children_of, children, with_child_of, with_child, replaced}
 use Rattle.px_terms.specs.TreeEquations.{term_size-Con, term_size-Call, term_size-Match}

@@ -1,5 +1,5 @@
 -- What the code of a row found opens the sequent.
-use Rattle.std.proofs.Common.{◌≡◌, ◌<◌, ◌≤◌, ◌+◌, ◌-◌, ℕ, suc, List, [], ◌∷◌, ◌++◌, length, take, drop, get_or, slice_get, slice_set, Option, Some, IfSome, refl, sym, ap, subst, ◌∙◌, add-one, append_assoc, arith, All, Bool, IsTrue, ◌⊎◌, inl, inr, map, reverse}
+use Rattle.std.proofs.Common.{◌≡◌, ◌<◌, ◌≤◌, ◌+◌, ◌-◌, ℕ, suc, List, [], ◌∷◌, ◌++◌, length, take, drop, get_or, slice_get, slice_set, Option, Some, IfSome, sym, ap, subst, ◌∙◌, add-one, append_assoc, arith, All, Bool, IsTrue, ◌⊎◌, inl, inr, map, reverse}
 use Rattle.std.proofs.Math.Seq.{drop-cons}
 use Rattle.std.proofs.Math.ListN.{drop_of_length-le}
 use Rattle.std.proofs.lemmas.List.{take-append-drop, reverse-append}

@@ -1,5 +1,5 @@
 -- What the code of a step found is a step.
-use Rattle.std.proofs.Common.{◌≡◌, ◌≤◌, ◌^◌, ℕ, List, [], ◌∷◌, refl, sym, ap, subst, ◌∙◌, Option, Some, None, slice_get, arith}
+use Rattle.std.proofs.Common.{◌≡◌, ◌≤◌, ℕ, List, [], sym, ap, subst, ◌∙◌, Option, Some, None, slice_get, arith}
 use Rattle.std.specs.Option.{option_map}
 use Rattle.px_terms.specs.declared.types.Ty.{Ty}
 use Rattle.px_terms.specs.declared.types.Fun.{Fun}
@@ -58,10 +58,6 @@ turns_to P facts _ _ t (selects {arms = arms} on_is arm_is t_is) = ap (λ y. arm
 some_one : {A : Type 0} (a b : A) (o : Option A) → o ≡ Some a → o ≡ Some b → a ≡ b
 some_one a b o p q = let h : Some a ≡ Some b = sym p ∙ q in cc
 
--- what becomes nothing takes no step
-pub no_turn : (P : Program) (facts : List Equation) (k : Kind) (y : Term-F Term) (t : Term) → becomes_of P k y ≡ None → Turns P facts k y t → ⊥
-no_turn P facts k y t none turns = let h : None ≡ Some t = sym none ∙ turns_to P facts k y t turns in cc
-
 -- a part becomes one term
 pub one_turn : (P : Program) (facts : List Equation) (k : Kind) (y : Term-F Term) (t u : Term) → Turns P facts k y t → Turns P facts k y u → t ≡ u
 one_turn P facts k y t u one other = some_one t u (becomes_of P k y) (turns_to P facts k y t one) (turns_to P facts k y u other)
@@ -94,10 +90,6 @@ steps_at P facts s part path k t found one =
       nodes = omega (arith, fits, one.small.nodes);
       small = one.small;
     }
-
--- where nothing is found at the place, there is no step
-pub no_part : (P : Program) (facts : List Equation) (s : Term) (path : List ℕ) (k : Kind) (t : Term) → subterm s path ≡ None → Step P facts s path k t → ⊥
-no_part P facts s path k t none one = let h : None ≡ Some one.part = sym none ∙ one.at in cc
 
 -- what the code made of the part is what the step makes
 pub step_made : (P : Program) (facts : List Equation) (s part becomes : Term) (path : List ℕ) (k : Kind) (t : Term) → subterm s path ≡ Some part → Turns P facts k (out-Term part) becomes → Step P facts s path k t → replaced s path becomes ≡ Some t

@@ -1,20 +1,17 @@
 -- A thin program has few obligations, few variables in each clause, and two constructors.
-use Rattle.std.proofs.Common.{◌≡◌, ℕ, zero, suc, ◌+◌, ◌<◌, ◌≤◌, ◌^◌, List, [], ◌∷◌, length, map, Some, None, sym, refl, ap, ◌∙◌, subst, arith}
+use Rattle.std.proofs.Common.{◌≡◌, ℕ, zero, suc, ◌<◌, ◌≤◌, ◌^◌, List, [], ◌∷◌, length, Some, None, ap, ◌∙◌, subst, arith}
 use Rattle.std.specs.List.{slice_get}
 use Rattle.std.proofs.lemmas.List.{length-map}
-use Rattle.px_terms.specs.declared.types.Ty.{Ty}
 use Rattle.px_terms.specs.declared.types.FnType.{FnType}
 use Rattle.px_terms.specs.declared.clause.Clause.{Clause}
-use Rattle.px_terms.specs.declared.program.ConDef.{ConDef}
 use Rattle.px_terms.specs.declared.program.DataDef.{DataDef}
 use Rattle.px_terms.specs.declared.program.Def as definition
 use Rattle.px_terms.specs.declared.program.Declared.{Declared}
-use Rattle.px_terms.specs.declared.program.Program.{Program}
-use Rattle.px_terms.specs.declared.limits.TheConstants.{PROGRAM_BYTES, CLAUSE_VARIABLES}
+use Rattle.px_terms.specs.declared.limits.TheConstants.{PROGRAM_BYTES}
 use Rattle.px_terms.specs.Programs.{bool_type, bool_data}
 use Rattle.px_terms.specs.Obligations.{IsObligation, IsDeclaredClause}
 use Rattle.px_lexer.specs.declared.token.Token.{Token}
-use Rattle.px_replay.specs.Thin.{ThinDef, AreThinDefs, declared_from, program_of}
+use Rattle.px_replay.specs.Thin.{ThinDef, AreThinDefs, program_of}
 use Rattle.px_replay.specs.Numbered.{HasNumberedVariables, HasNumbers}
 use Rattle.px_replay.proofs.ClauseLemmas.{declares, of_definition, found_one}
 use Rattle.px_replay.proofs.ThinTyped.{def_of, lawful_property}

@@ -77,15 +77,7 @@ fn cases_of(
         let Ok(con) = u32::try_from(place) else {
             return Err(ReplayEnd::Rejected);
         };
-        children.push(case(
-            alloc,
-            sequent,
-            variable,
-            datatype,
-            args,
-            con,
-            constructor,
-        )?)?;
+        children.push(case(alloc, sequent, variable, datatype, args, con, constructor)?)?;
     }
     Ok(children)
 }
@@ -109,7 +101,13 @@ fn case(
     let Some(fresh) = fresh_count(sequent.next, fields.len()) else {
         return Err(ReplayEnd::Rejected);
     };
-    let vars = case_vars(alloc, sequent.context.vars.as_slice(), variable, fields, args)?;
+    let vars = case_vars(
+        alloc,
+        sequent.context.vars.as_slice(),
+        variable,
+        fields,
+        args,
+    )?;
     let by = on_fresh_variables(alloc, sequent.next, fresh, datatype, con, args)?;
     let next = sequent.next + fresh;
     let child = with_put(alloc, sequent, vars, next, variable, &by)?;

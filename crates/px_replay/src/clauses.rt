@@ -14,8 +14,8 @@ ghost use Rattle.px_replay.specs.Numbered.{HasNumberedVariables};
 use crate::replay::ReplayEnd;
 use px_terms::{
     Clause, Context, Declared, Def, Equation, EquationList, Frame, Fun, Head, Lemma, NoMemory,
-    Program, Prop, Sequent, Term, Ty, copy_equation, copy_equations, copy_fn_types, copy_ty, copy_tys,
-    same_ty,
+    Program, Prop, Sequent, Term, Ty, copy_equation, copy_equations, copy_fn_types, copy_ty,
+    copy_tys, same_ty,
 };
 use sqlite_items::{Items, at};
 use std::alloc::Global;
@@ -117,8 +117,18 @@ fn comm_clause(
     let mut vars = copy_tys(alloc, leading)?;
     vars.push(copy_ty(alloc, last)?)?;
     vars.push(copy_ty(alloc, last)?)?;
-    let left = own_call(alloc, number, def, variables(alloc, count, count, count + 1)?)?;
-    let right = own_call(alloc, number, def, variables(alloc, count, count + 1, count)?)?;
+    let left = own_call(
+        alloc,
+        number,
+        def,
+        variables(alloc, count, count, count + 1)?,
+    )?;
+    let right = own_call(
+        alloc,
+        number,
+        def,
+        variables(alloc, count, count + 1, count)?,
+    )?;
     equation_clause(alloc, def, vars, left, right)
 }
 

@@ -1,4 +1,4 @@
-use Rattle.std.proofs.Common.{◌≡◌, true, false, sym, ap, subst, ◌∙◌}
+use Rattle.std.proofs.Common.{◌≡◌, true, false, sym, subst}
 use Rattle.px_terms.specs.Sequents.{IsWithinLimits}
 use Rattle.px_terms.specs.Derivations.{case_of}
 use Rattle.px_replay.proofs.OpeningLemmas.{case_made}

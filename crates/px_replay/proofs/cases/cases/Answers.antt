@@ -1,12 +1,11 @@
-use Rattle.std.proofs.Common.{◌≡◌, ◌<◌, ◌^◌, length, subst, List, [], sym, ap, ◌∙◌, All, Some, slice_get, Option}
+use Rattle.std.proofs.Common.{◌≡◌, ◌<◌, ◌^◌, length, subst, List, sym, ap, ◌∙◌, All, Some, slice_get, Option}
 use Rattle.std.proofs.lemmas.Result.{IfOk-weaker}
 use Rattle.px_terms.specs.declared.types.Ty.{Ty}
 use Rattle.px_terms.specs.declared.types.Ty.TheVariants as type
 use Rattle.px_terms.specs.declared.program.ConDef.{ConDef}
 use Rattle.px_terms.specs.declared.program.DataDef.{DataDef}
-use Rattle.px_terms.specs.declared.sequent.Sequent.{Sequent}
 use Rattle.px_terms.specs.Sequents.{IsWithinLimits}
-use Rattle.px_terms.specs.Derivations.{Opens, case, cases_from}
+use Rattle.px_terms.specs.Derivations.{case, cases_from}
 use Rattle.px_terms.specs.declared.row.Row.TheVariants.{CaseVar}
 use Rattle.px_replay.proofs.OpeningLemmas.{needs, cases_fit}
 use Rattle.px_replay.proofs.Results.{both_ok}

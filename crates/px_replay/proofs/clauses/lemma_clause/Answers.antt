@@ -1,4 +1,4 @@
-use Rattle.std.proofs.Common.{◌≡◌, ap, sym, ◌∙◌, slice_get, List, Some}
+use Rattle.std.proofs.Common.{ap, sym, ◌∙◌, slice_get, List}
 use Rattle.px_terms.specs.declared.program.Lemma.{Lemma}
 use Rattle.px_terms.specs.Obligations.{of_lemma}
 use Rattle.px_replay.proofs.clauses.lemma_clause.Goals as goal

@@ -1,12 +1,10 @@
-use Rattle.std.proofs.Common.{true, false, ◌≡◌, ◌≢◌, ◌≤◌, refl, ◌+◌, ◌-◌, ◌∷◌, ◌++◌, [], inl, inr, ⊎_elim, take, length, List, Some, slice_get, sym, ap, subst, ◌∙◌, arith}
+use Rattle.std.proofs.Common.{true, false, ◌≡◌, refl, ◌-◌, ◌∷◌, ◌++◌, [], ⊎_elim, take, length, List, Some, slice_get, sym, ap, subst, ◌∙◌}
 use Rattle.px_terms.specs.declared.types.Ty.{Ty}
 use Rattle.px_terms.specs.declared.types.Prop.{Prop}
-use Rattle.px_terms.specs.declared.types.Prop.TheVariants as prop
-use Rattle.px_terms.specs.declared.clause.Clause.{Clause}
 use Rattle.px_terms.specs.declared.program.Def.{Def}
-use Rattle.px_terms.specs.Clauses.{IsClause, Shape, comm, idem, comm_clause, idem_clause}
+use Rattle.px_terms.specs.Clauses.{IsClause, Shape, comm, idem}
 use Rattle.px_replay.proofs.RowLemmas.{two_last}
-use Rattle.px_replay.proofs.ClauseLemmas.{of_definition, meets_definition, long_enough}
+use Rattle.px_replay.proofs.ClauseLemmas.{of_definition, meets_definition}
 use Rattle.px_replay.proofs.clauses.property_clause.Goals as goal
 use Rattle.px_replay.proofs.clauses.property_clause.Goals.{in_default-prop-via-in-Idem+else-same_ty, in_default-prop-via-in_default-prop}
 
@@ -33,6 +31,6 @@ returns-in_default-prop-clause-only c = λ clause is numbered.
     let meets = meets_definition c.args.program.now c.args.number c.args.prop clause c.in-Some.def.now (take (length c.as_slice-2.result.now - 2) c.as_slice-2.result.now) c.first-item.result c.last-item.result found params is numbered in
     let which = (of_definition c.args.program.now c.args.number c.args.prop clause is).which in
     elim c.in_default-prop.branch [
-      in_default-prop-via-in-Idem+else-same_ty w ↦ (let told : false ≡ true = w.if-same_ty.ensures.1 (meets.result w.in-Idem.is) in cc)
+      | in_default-prop-via-in-Idem+else-same_ty w ↦ (let told : false ≡ true = w.if-same_ty.ensures.1 (meets.result w.in-Idem.is) in cc)
       | in_default-prop-via-in_default-prop w ↦ ⊎_elim (λ is_comm. absurd (w.in_default-prop.not-Comm is_comm)) (λ is_idem. absurd (w.in_default-prop.not-Idem is_idem)) which
     ]

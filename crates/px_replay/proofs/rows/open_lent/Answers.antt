@@ -1,6 +1,5 @@
-use Rattle.std.proofs.Common.{◌≡◌, true, false, List, [], sym, subst, append-nil}
+use Rattle.std.proofs.Common.{◌≡◌, true, false, [], sym, subst, append-nil}
 use Rattle.std.proofs.lemmas.List.Elements.{All-nil}
-use Rattle.px_terms.specs.declared.sequent.Sequent.{Sequent}
 use Rattle.px_terms.specs.declared.row.Row.{Row}
 use Rattle.px_terms.specs.declared.row.Row.TheVariants as row
 use Rattle.px_terms.specs.Sequents.{IsWithinLimits}

@@ -4,7 +4,6 @@ use Rattle.px_terms.specs.declared.clause.Equation.{Equation}
 use Rattle.px_terms.specs.declared.row.Side.{Side}
 use Rattle.px_terms.specs.Sequents.{side_of}
 use Rattle.px_terms.specs.Steps.{Step}
-use Rattle.px_replay.specs.Replays.{StepsSide}
 use Rattle.px_replay.proofs.OpeningLemmas.{step_of}
 use Rattle.px_replay.proofs.rows.step_side.Goals as goal
 

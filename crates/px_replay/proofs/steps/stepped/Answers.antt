@@ -1,5 +1,4 @@
-use Rattle.std.proofs.Common.{◌≡◌, true, false, sym, ap, subst, ◌∙◌, Some, None}
-use Rattle.px_terms.specs.declared.term.Term.{Term}
+use Rattle.std.proofs.Common.{◌≡◌, true, false, sym, subst, ◌∙◌, Some}
 use Rattle.px_terms.specs.Sequents.{IsSmall}
 use Rattle.px_replay.proofs.Results.{still_ends}
 use Rattle.px_replay.proofs.StepLemmas.{steps_at, step_made}

@@ -1,4 +1,4 @@
-use Rattle.std.proofs.Common.{sym, subst, ap, ◌∙◌, List, arith, length, ◌≡◌, ◌≤◌, map, ◌∷◌, codes, ℕ}
+use Rattle.std.proofs.Common.{sym, subst, List, arith, length, ◌≤◌, ℕ}
 use Rattle.px_terms.specs.Obligations.{IsTyped}
 use Rattle.px_lexer.specs.declared.token.Token.{Token}
 use Rattle.px_replay.specs.Thin.{AreDistinct, AreThinDefs, IsThinSource}
