@@ -1,6 +1,10 @@
+pub mod ClauseLemmas
+pub mod Closings
 pub mod Decimals
 pub mod Lists
 pub mod Numbers
+pub mod OpeningLemmas
+pub mod PartSizes
 pub mod Paths
 pub mod ReplayLemmas
 pub mod Results
@@ -12,4 +16,5 @@ pub mod ThinTerms
 pub mod ThinLists
 pub mod ThinDefs
 pub mod ThinTyped
+pub mod ThinNumbers
 pub mod ThinPrograms

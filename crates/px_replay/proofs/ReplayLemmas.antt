@@ -1,6 +1,6 @@
 -- The stack, the rows and the text, one row after the other.
 use Rattle.std.specs.Prelude.{◌==◌}
-use Rattle.std.proofs.Common.{◌≡◌, ◌<◌, ◌+◌, ℕ, zero, suc, true, eqb-true, List, [], ◌∷◌, ◌++◌, length, map, reverse, slice_get, Some, None, All, refl, sym, ap, subst, ◌∙◌, append_assoc, append-nil, add-zero, zero-add, arith, length-append}
+use Rattle.std.proofs.Common.{◌≡◌, ◌<◌, ◌+◌, ◌^◌, ℕ, zero, suc, true, eqb-true, List, [], ◌∷◌, ◌++◌, length, map, reverse, slice_get, Some, None, All, refl, sym, ap, subst, ◌∙◌, append_assoc, append-nil, add-zero, zero-add, arith, length-append}
 use Rattle.std.proofs.lemmas.List.{reverse-append, map-append}
 use Rattle.std.proofs.lemmas.List.Elements.{All-nil, All-cons, All-head, All-tail, All-push, All-append}
 use Rattle.std.proofs.lemmas.Grind.{flat_map-append}
@@ -13,6 +13,7 @@ use Rattle.px_terms.specs.declared.row.Row.TheVariants as row
 use Rattle.px_terms.specs.Obligations.{IsDeclaredClause}
 use Rattle.px_terms.specs.Sequents.{IsWithinLimits, first_sequent}
 use Rattle.px_terms.specs.Derivations.{Opens, Leads, stays, goes_on, Tree, Derives, DerivesObligation, StackIsTree, rows_of}
+use Rattle.px_terms.specs.Readable.{IsReadable}
 use Rattle.px_terms.specs.Spelling.{line_of, lines_of, rows_from, IsDerivationText}
 use Rattle.px_replay.specs.declared.opened.Open.{Open}
 use Rattle.px_replay.specs.Replays.{IsRightlyMarked, child_within, sequents_of, ReplaysRow, HasReplayed, ReplaysObligation, ReplaysBelow}
@@ -49,6 +50,16 @@ reverse-map : {X Y : Type 0} (f : X → Y) (xs : List X) → reverse (map f (rev
 reverse-map f [] = refl
 reverse-map {X} {Y} f (x ∷ xs) = ap (λ (ys : List X). reverse (map f ys)) (reverse-cons x xs) ∙ (ap (λ (ys : List Y). reverse ys) (map-append f (reverse xs) (x ∷ [])) ∙ (reverse-push (map f (reverse xs)) (f x) ∙ ap (λ (ys : List Y). f x ∷ ys) (reverse-map f xs)))
 
+-- the sequents of a stack onto which children were put
+pub pushed_sequents : (popped : List Open) (children : List Sequent) → sequents_of (popped ++ map child_within (reverse children)) ≡ children ++ sequents_of popped
+pushed_sequents popped children =
+    let turned : reverse (popped ++ map child_within (reverse children)) ≡ map child_within children ++ reverse popped = reverse-append popped (map child_within (reverse children)) ∙ ap (λ (os : List Open). os ++ reverse popped) (reverse-map child_within children) in
+    ap (λ (os : List Open). map (λ (o : Open). o.sequent) os) turned ∙ (map-append (λ (o : Open). o.sequent) (map child_within children) (reverse popped) ∙ ap (λ (ss : List Sequent). ss ++ sequents_of popped) (sequents_of-children children))
+
+-- the sequents of a stack, the top one apart
+pub top_sequent : (stack popped : List Open) (top : Open) → stack ≡ popped ++ top ∷ [] → sequents_of stack ≡ top.sequent ∷ sequents_of popped
+top_sequent stack popped top split = ap (λ (os : List Open). map (λ (o : Open). o.sequent) os) (ap (λ (os : List Open). reverse os) split ∙ reverse-push popped top)
+
 -- children that are within the limits are rightly marked
 all_marked : (ss : List Sequent) → All IsWithinLimits ss → All IsRightlyMarked (map child_within ss)
 all_marked [] all = All-nil IsRightlyMarked
@@ -56,17 +67,17 @@ all_marked (s ∷ ss) all = All-cons IsRightlyMarked (child_within s) (map child
 
 -- the first sequent alone is open, and nothing was read
 pub begins_replay : (P : Program) (n : ℕ) (first : Open) (text : List ℕ) → HasReplayed P n first.sequent (first ∷ []) text text
-begins_replay P n first text = record { rows = []; leads = stays; lines = refl }
+begins_replay P n first text = record { rows = []; readable = All-nil IsReadable; leads = stays; lines = refl }
 
 -- one more row was replayed at the sequent on top
 pub goes_on_replay : (P : Program) (n : ℕ) (first : Sequent) (stack popped new : List Open) (top : Open) (text rest later : List ℕ) → stack ≡ popped ++ top ∷ [] → HasReplayed P n first stack text rest → ReplaysRow P n top.sequent popped new rest later → HasReplayed P n first new text later
 goes_on_replay P n first stack popped new top text rest later split so_far one =
     let children = one.opened.children in
-    let here : sequents_of stack ≡ top.sequent ∷ sequents_of popped = ap (λ (os : List Open). map (λ (o : Open). o.sequent) os) (ap (λ (os : List Open). reverse os) split ∙ reverse-push popped top) in
-    let turned : reverse new ≡ map child_within children ++ reverse popped = ap (λ (os : List Open). reverse os) one.opened.stack ∙ (reverse-append popped (map child_within (reverse children)) ∙ ap (λ (os : List Open). os ++ reverse popped) (reverse-map child_within children)) in
-    let onto : sequents_of new ≡ children ++ sequents_of popped = ap (λ (os : List Open). map (λ (o : Open). o.sequent) os) turned ∙ (map-append (λ (o : Open). o.sequent) (map child_within children) (reverse popped) ∙ ap (λ (ss : List Sequent). ss ++ sequents_of popped) (sequents_of-children children)) in
+    let here : sequents_of stack ≡ top.sequent ∷ sequents_of popped = top_sequent stack popped top split in
+    let onto : sequents_of new ≡ children ++ sequents_of popped = ap sequents_of one.opened.stack ∙ pushed_sequents popped children in
     record {
       rows = so_far.rows ++ one.row ∷ [];
+      readable = All-push IsReadable so_far.rows one.row so_far.readable one.readable;
       leads = subst (λ (ss : List Sequent). Leads P n (first ∷ []) (so_far.rows ++ one.row ∷ []) ss) (sym onto) (leads_last P n (first ∷ []) so_far.rows (sequents_of stack) top.sequent (sequents_of popped) one.row children so_far.leads here one.opened.opens);
       lines = so_far.lines ∙ (ap (λ (bytes : List ℕ). lines_of so_far.rows ++ bytes) one.line ∙ sym (lines_last so_far.rows one.row later));
     }
@@ -82,12 +93,12 @@ row_takes P n s old new rest later one =
     omega (arith, e)
 
 -- the text of a row before others
-lines-cons : (h : Row) (rows : List Row) (rest : List ℕ) → line_of h ++ 10 ∷ (lines_of rows ++ rest) ≡ lines_of (h ∷ rows) ++ rest
+pub lines-cons : (h : Row) (rows : List Row) (rest : List ℕ) → line_of h ++ 10 ∷ (lines_of rows ++ rest) ≡ lines_of (h ∷ rows) ++ rest
 lines-cons h rows rest = sym (append_assoc (line_of h ++ 10 ∷ []) (lines_of rows) rest ∙ append_assoc (line_of h) (10 ∷ []) (lines_of rows ++ rest))
 
 -- the header and the rows of a tree were replayed
-pub replayed_obligation : (P : Program) (n : ℕ) (declared : Declared) (clause : Clause) (first : Sequent) (text rows_text rest : List ℕ) → slice_get P.declared n ≡ Some declared → IsDeclaredClause P declared clause → first ≡ first_sequent clause (record { entries = [] }) → text ≡ line_of (row.Header n []) ++ 10 ∷ rows_text → HasReplayed P n first [] rows_text rest → ((s : Sequent) (rows : List Row) → StackIsTree P n s rows) → ReplaysObligation P n text rest
-replayed_obligation P n declared clause first text rows_text rest number says first_is header replayed law =
+pub replayed_obligation : (P : Program) (n : ℕ) (declared : Declared) (clause : Clause) (first : Sequent) (text rows_text rest : List ℕ) → n < 2 ^ 32 → slice_get P.declared n ≡ Some declared → IsDeclaredClause P declared clause → first ≡ first_sequent clause (record { entries = [] }) → text ≡ line_of (row.Header n []) ++ 10 ∷ rows_text → HasReplayed P n first [] rows_text rest → ((s : Sequent) (rows : List Row) → StackIsTree P n s rows) → ReplaysObligation P n text rest
+replayed_obligation P n declared clause first text rows_text rest small number says first_is header replayed law =
     let tree = (law first replayed.rows).tree_of replayed.leads in
     record {
       tree = record { on = []; root = tree.0 };
@@ -97,6 +108,7 @@ replayed_obligation P n declared clause first text rows_text rest number says fi
         rising = refl;
         derives = subst (λ (s : Sequent). Derives P n s tree.0) first_is tree.1;
       };
+      readable = All-cons IsReadable (row.Header n []) (rows_of tree.0) (small, refl) (subst (All IsReadable) (sym tree.2) replayed.readable);
       lines = header ∙ (ap (λ (bytes : List ℕ). line_of (row.Header n []) ++ 10 ∷ bytes) (replayed.lines ∙ ap (λ (rows : List Row). lines_of rows ++ rest) (sym tree.2)) ∙ lines-cons (row.Header n []) (rows_of tree.0) rest);
     }
 
@@ -115,16 +127,18 @@ rows_from-push n (t ∷ trees) tree =
 
 -- no obligation was replayed yet
 pub begins_below : (P : Program) (text : List ℕ) → ReplaysBelow P 0 text text
-begins_below P text = record { trees = []; count = refl; each = λ i tree found. (let e : None ≡ Some tree = found in cc); lines = refl }
+begins_below P text = record { trees = []; count = refl; each = λ i tree found. (let e : None ≡ Some tree = found in cc); readable = All-nil IsReadable; lines = refl }
 
 -- one more obligation
 pub goes_on_below : (P : Program) (n : ℕ) (text rest later : List ℕ) → ReplaysBelow P n text rest → ReplaysObligation P n rest later → ReplaysBelow P (n + 1) text later
 goes_on_below P n text rest later so_far one =
-    let flat : lines_of (rows_from 0 (so_far.trees ++ one.tree ∷ [])) ≡ lines_of (rows_from 0 so_far.trees) ++ lines_of (row.Header n one.tree.on ∷ rows_of one.tree.root) = ap lines_of (rows_from-push 0 so_far.trees one.tree ∙ ap (λ (k : ℕ). rows_from 0 so_far.trees ++ row.Header k one.tree.on ∷ rows_of one.tree.root) (zero-add (length so_far.trees) ∙ so_far.count)) ∙ flat_map-append (λ (q : Row). line_of q ++ 10 ∷ []) (rows_from 0 so_far.trees) (row.Header n one.tree.on ∷ rows_of one.tree.root) in
+    let pushed : rows_from 0 (so_far.trees ++ one.tree ∷ []) ≡ rows_from 0 so_far.trees ++ (row.Header n one.tree.on ∷ rows_of one.tree.root) = rows_from-push 0 so_far.trees one.tree ∙ ap (λ (k : ℕ). rows_from 0 so_far.trees ++ (row.Header k one.tree.on ∷ rows_of one.tree.root)) (zero-add (length so_far.trees) ∙ so_far.count) in
+    let flat : lines_of (rows_from 0 (so_far.trees ++ one.tree ∷ [])) ≡ lines_of (rows_from 0 so_far.trees) ++ lines_of (row.Header n one.tree.on ∷ rows_of one.tree.root) = ap lines_of pushed ∙ flat_map-append (λ (q : Row). line_of q ++ 10 ∷ []) (rows_from 0 so_far.trees) (row.Header n one.tree.on ∷ rows_of one.tree.root) in
     record {
       trees = so_far.trees ++ one.tree ∷ [];
       count = length-append so_far.trees (one.tree ∷ []) ∙ ap (λ (k : ℕ). k + 1) so_far.count;
       each = λ i tree found. slice_get-push so_far.trees one.tree tree i (λ k t. DerivesObligation P k t) so_far.each (subst (λ (k : ℕ). DerivesObligation P k one.tree) (sym so_far.count) one.derives) found;
+      readable = subst (All IsReadable) (sym pushed) (All-append IsReadable (rows_from 0 so_far.trees) (row.Header n one.tree.on ∷ rows_of one.tree.root) so_far.readable one.readable);
       lines = so_far.lines ∙ (ap (λ (bytes : List ℕ). lines_of (rows_from 0 so_far.trees) ++ bytes) one.lines ∙ (sym (append_assoc (lines_of (rows_from 0 so_far.trees)) (lines_of (row.Header n one.tree.on ∷ rows_of one.tree.root)) later) ∙ ap (λ (bytes : List ℕ). bytes ++ later) (sym flat)));
     }
 
@@ -133,6 +147,7 @@ pub all_replayed : (P : Program) (text rest : List ℕ) → ReplaysBelow P (leng
 all_replayed P text rest whole none = record {
   trees = whole.trees;
   derivation = record { count = whole.count; each = whole.each };
+  readable = whole.readable;
   spelled = whole.lines ∙ (ap (λ (bytes : List ℕ). lines_of (rows_from 0 whole.trees) ++ bytes) none ∙ append-nil (lines_of (rows_from 0 whole.trees)));
 }
 

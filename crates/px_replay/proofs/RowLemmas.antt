@@ -1,5 +1,5 @@
 -- What the code of a row found opens the sequent.
-use Rattle.std.proofs.Common.{◌≡◌, ◌<◌, ◌≤◌, ◌+◌, ◌-◌, ℕ, suc, List, [], ◌∷◌, ◌++◌, length, take, drop, get_or, slice_get, slice_set, Option, Some, IfSome, refl, sym, ap, subst, ◌∙◌, add-one, append_assoc, arith, All, Bool, IsTrue, ◌⊎◌, inl, inr, map, reverse}
+use Rattle.std.proofs.Common.{◌≡◌, ◌<◌, ◌≤◌, ◌+◌, ◌-◌, ℕ, suc, List, [], ◌∷◌, ◌++◌, length, take, drop, get_or, slice_get, slice_set, Option, Some, IfSome, sym, ap, subst, ◌∙◌, add-one, append_assoc, arith, All, Bool, IsTrue, ◌⊎◌, inl, inr, map, reverse}
 use Rattle.std.proofs.Math.Seq.{drop-cons}
 use Rattle.std.proofs.Math.ListN.{drop_of_length-le}
 use Rattle.std.proofs.lemmas.List.{take-append-drop, reverse-append}
@@ -9,7 +9,6 @@ use Rattle.px_terms.specs.declared.types.Ty.{Ty}
 use Rattle.px_terms.specs.declared.term.Term.{Term}
 use Rattle.px_terms.specs.declared.clause.Equation.{Equation}
 use Rattle.px_terms.specs.declared.program.ConDef.{ConDef}
-use Rattle.px_terms.specs.declared.program.Def.{Def}
 use Rattle.px_terms.specs.declared.program.Program.{Program}
 use Rattle.px_terms.specs.declared.sequent.Sequent.{Sequent}
 use Rattle.px_terms.specs.declared.row.Side.{Side}
@@ -18,11 +17,8 @@ use Rattle.px_terms.specs.declared.row.Kind.{Kind}
 use Rattle.px_terms.specs.declared.row.Target.TheVariants as target
 use Rattle.px_terms.specs.declared.row.Row.TheVariants as row
 use Rattle.px_terms.specs.TreeEdits.{with_side}
-use Rattle.px_terms.specs.Clauses.{Shape, comm_clause, idem_clause}
 use Rattle.px_terms.specs.Sequents.{IsSmall, IsSmallEquation, IsWithinLimits}
 use Rattle.px_terms.specs.Derivations.{Opens, step, case_of, cases_from}
-use Rattle.px_terms.specs.declared.term.Term.TheVariants as term
-use Rattle.px_replay.specs.Own.{variables_and, plain_call, plain_clause}
 use Rattle.px_replay.specs.declared.opened.Open.{Open}
 use Rattle.px_replay.specs.Replays.{StepsSide, child_within}
 
@@ -36,13 +32,13 @@ small_with_side Left e t whole small = record { left = small; right = whole.righ
 small_with_side Right e t whole small = record { left = whole.left; right = small }
 
 -- the written list is the one with the stepped side
-written : (P : Program) (s : Sequent) (at : ℕ) (side : Side) (path : List ℕ) (kind : Kind) (t : Term) (steps : StepsSide P s at side path kind t) (alternatives : List Equation) → IfSome (slice_get s.alternatives at) (λ e. alternatives ≡ slice_set s.alternatives at (with_side side e t)) → alternatives ≡ slice_set s.alternatives at (with_side side steps.equation t)
+pub written : (P : Program) (s : Sequent) (at : ℕ) (side : Side) (path : List ℕ) (kind : Kind) (t : Term) (steps : StepsSide P s at side path kind t) (alternatives : List Equation) → IfSome (slice_get s.alternatives at) (λ e. alternatives ≡ slice_set s.alternatives at (with_side side e t)) → alternatives ≡ slice_set s.alternatives at (with_side side steps.equation t)
 written P s at side path kind t steps alternatives is = subst (λ (o : Option Equation). IfSome o (λ e. alternatives ≡ slice_set s.alternatives at (with_side side e t))) steps.found is
 
 -- a small side in place of one keeps the limits
 step_is_small : (P : Program) (s : Sequent) (at : ℕ) (side : Side) (path : List ℕ) (kind : Kind) (t : Term) (steps : StepsSide P s at side path kind t) (alternatives : List Equation) → IfSome (slice_get s.alternatives at) (λ e. alternatives ≡ slice_set s.alternatives at (with_side side e t)) → IsWithinLimits s → IsWithinLimits (record s { alternatives = alternatives })
 step_is_small P s at side path kind t steps alternatives is within =
-    let small : All IsSmallEquation (slice_set s.alternatives at (with_side side steps.equation t)) = All-set IsSmallEquation s.alternatives at (with_side side steps.equation t) (small_with_side side steps.equation t (all_at IsSmallEquation s.alternatives at steps.equation steps.found within.alternatives) (steps.step s.facts).small) within.alternatives in
+    let small : All IsSmallEquation (slice_set s.alternatives at (with_side side steps.equation t)) = All-set IsSmallEquation s.alternatives at (with_side side steps.equation t) (small_with_side side steps.equation t (all_at IsSmallEquation s.alternatives at steps.equation steps.found within.alternatives) steps.step.small) within.alternatives in
     record {
       vars = within.vars;
       present = within.present;
@@ -55,7 +51,7 @@ step_is_small P s at side path kind t steps alternatives is within =
 -- a step on a side opens the sequent onto the one with the stepped side, which is within the limits
 pub step_opens : (P : Program) (n : ℕ) (s : Sequent) (at : ℕ) (side : Side) (path : List ℕ) (kind : Kind) (t : Term) (steps : StepsSide P s at side path kind t) (alternatives : List Equation) → IfSome (slice_get s.alternatives at) (λ e. alternatives ≡ slice_set s.alternatives at (with_side side e t)) → IsWithinLimits (record s { alternatives = alternatives }) → Opens P n s (row.Step (target.Alternative at side) path kind) (record s { alternatives = alternatives } ∷ [])
 step_opens P n s at side path kind t steps alternatives is within =
-    step steps.found (steps.step s.facts) (ap (λ (es : List Equation). record s { alternatives = es }) (written P s at side path kind t steps alternatives is)) within
+    step steps.found steps.step (ap (λ (es : List Equation). record s { alternatives = es }) (written P s at side path kind t steps alternatives is)) within
 
 -- the stepped sequent is within the limits, where it was before or is found to be
 pub step_is_within : (P : Program) (s : Sequent) (is_within : Bool) (at : ℕ) (side : Side) (path : List ℕ) (kind : Kind) (t : Term) (steps : StepsSide P s at side path kind t) (alternatives : List Equation) → IfSome (slice_get s.alternatives at) (λ e. alternatives ≡ slice_set s.alternatives at (with_side side e t)) → (IsTrue is_within → IsWithinLimits s) → IsTrue is_within ⊎ IsWithinLimits (record s { alternatives = alternatives }) → IsWithinLimits (record s { alternatives = alternatives })
@@ -88,11 +84,3 @@ two_last {A} xs x y long x_is y_is =
     let y_there : get_or xs (suc n) y ≡ y = ap (λ (k : ℕ). get_or xs k y) (sym place) ∙ sym y_is in
     let ends : drop n xs ≡ x ∷ y ∷ [] = first ∙ (ap (λ (z : A). z ∷ drop (suc n) xs) (sym x_is) ∙ ap (λ (zs : List A). x ∷ zs) (second ∙ (ap (λ (z : A). z ∷ drop (suc (suc n)) xs) y_there ∙ ap (λ (zs : List A). y ∷ zs) none))) in
     sym (take-append-drop n xs) ∙ ap (λ (zs : List A). take n xs ++ zs) ends
-
--- the commutativity of a definition without type and function parameters
-pub comm_is_clause : (P : Program) (n : ℕ) (d : Def) (s : Shape) (count : ℕ) → slice_get P.defs n ≡ Some d → d.tparams ≡ 0 → d.funs ≡ [] → d.params ≡ s.leading ++ s.last ∷ s.last ∷ [] → count ≡ length s.leading → plain_clause (s.leading ++ s.last ∷ s.last ∷ []) (plain_call n (variables_and count count (count + 1))) (plain_call n (variables_and count (count + 1) count)) ≡ comm_clause n d s
-comm_is_clause P n d s count found tparams_is funs_is shape count_is = rw (tparams_is, funs_is, ← count_is) refl
-
--- the idempotence of a definition without type and function parameters
-pub idem_is_clause : (P : Program) (n : ℕ) (d : Def) (s : Shape) (count : ℕ) → slice_get P.defs n ≡ Some d → d.tparams ≡ 0 → d.funs ≡ [] → d.params ≡ s.leading ++ s.last ∷ s.last ∷ [] → count ≡ length s.leading → plain_clause (s.leading ++ s.last ∷ []) (plain_call n (variables_and count count count)) (term.Free count) ≡ idem_clause n d s
-idem_is_clause P n d s count found tparams_is funs_is shape count_is = rw (tparams_is, funs_is, ← count_is) refl

@@ -1,12 +1,11 @@
 -- From what the parts of a definition take to what the definition takes.
-use Rattle.std.proofs.Common.{◌≡◌, ℕ, ◌≤◌, List, [], ◌∷◌, ◌++◌, refl, ap, ◌∙◌, append_assoc}
+use Rattle.std.proofs.Common.{◌≡◌, ℕ, List, [], ◌∷◌, ◌++◌, refl, append_assoc}
 use Rattle.px_terms.specs.declared.term.Term.{Term}
 use Rattle.px_lexer.specs.declared.token.Token.{Token}
 use Rattle.px_lexer.specs.declared.token.Mark.TheVariants as mark
 use Rattle.px_replay.specs.declared.thin.definition.Head.{Head}
-use Rattle.px_replay.specs.declared.thin.definition.Written.{Written}
 use Rattle.px_replay.specs.Thin.{IsMark, IsThinTerm, IsThinDef}
-use Rattle.px_replay.specs.ThinFronts.{BeginsWith, BeginsWithBoolType, Takes}
+use Rattle.px_replay.specs.ThinFronts.{BeginsWith, Takes}
 use Rattle.px_replay.specs.ThinDrafts.{thin_def, TakesThinHead}
 
 -- the tokens of a definition

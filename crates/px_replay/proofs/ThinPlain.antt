@@ -1,15 +1,14 @@
 -- A thin program is plain: over `Bool` alone, with bodies that call nothing.
-use Rattle.std.proofs.Common.{◌≡◌, ℕ, zero, suc, ◌+◌, List, [], ◌∷◌, ◌++◌, length, map, Option, Some, None, sym, refl, ap, ◌∙◌, subst}
+use Rattle.std.proofs.Common.{◌≡◌, ℕ, zero, suc, ◌+◌, List, [], ◌∷◌, length, map, Some, None, refl, ap, subst}
 use Rattle.std.specs.List.{slice_get}
-use Rattle.px_terms.specs.declared.types.Ty.{Ty}
-use Rattle.px_terms.specs.declared.term.Term.{Term, out-Term}
+use Rattle.px_terms.specs.declared.term.Term.{Term}
 use Rattle.px_terms.specs.declared.term.Term.TheVariants as term
 use Rattle.px_terms.specs.declared.program.Def as definition
 use Rattle.px_terms.specs.declared.program.Program.{Program}
 use Rattle.px_terms.specs.Programs.{bool_type}
 use Rattle.px_terms.specs.Plain.{IsPlainLayer, ArePlain, IsPlain, AreBools, IsPlainDef, IsPlainProgram}
 use Rattle.px_lexer.specs.declared.token.Token.{Token}
-use Rattle.px_replay.specs.Thin.{IsThinTerm, ThinDef, IsThinDef, AreThinDefs, defs_from, program_of, IsThinSource}
+use Rattle.px_replay.specs.Thin.{IsThinTerm, ThinDef, IsThinDef, AreThinDefs, defs_from, IsThinSource}
 
 -- a thin term is plain
 plain_term : {text : List ℕ} {names : List (List ℕ)} {nesting : ℕ} {tokens : List Token} {t : Term} → IsThinTerm text names nesting tokens t → IsPlain t

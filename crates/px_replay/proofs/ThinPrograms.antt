@@ -1,11 +1,10 @@
 -- A program that grows by one thin definition.
-use Rattle.std.proofs.Common.{◌≡◌, ℕ, zero, suc, ◌+◌, ◌<◌, ◌≤◌, ◌^◌, List, [], ◌∷◌, ◌++◌, length, map, replicate, Contains, codes, sym, refl, ap, ◌∙◌, subst, append_assoc, length-append, arith, add-zero, zero-add}
+use Rattle.std.proofs.Common.{◌≡◌, ℕ, suc, ◌+◌, ◌<◌, ◌≤◌, ◌^◌, List, [], ◌∷◌, ◌++◌, length, map, replicate, Contains, codes, sym, refl, ap, ◌∙◌, subst, append_assoc, length-append, arith, add-zero, zero-add}
 use Rattle.std.proofs.lemmas.List.{append-nil, length-map, map-append, nil_from_length}
 use Rattle.px_terms.specs.declared.types.Ty.{Ty}
 use Rattle.px_terms.specs.declared.types.FnType.{FnType}
 use Rattle.px_terms.specs.declared.types.Prop.{Prop}
 use Rattle.px_terms.specs.declared.program.Def as definition
-use Rattle.px_terms.specs.declared.program.Declared.{Declared}
 use Rattle.px_terms.specs.declared.program.Declared.TheVariants as obligation
 use Rattle.px_terms.specs.declared.limits.TheConstants.{PROGRAM_BYTES}
 use Rattle.px_terms.specs.Programs.{bool_type}
@@ -96,7 +95,7 @@ def_length (IsThinDef.written w n l ps r c b props o body close lawful whole) =
     let h = with_length props in
     rw whole (simp length-append (omega (arith, h)))
 
-defs_length : {text : List ℕ} {tokens : List Token} {ds : List ThinDef} (n : ℕ) → AreThinDefs text tokens ds → length ds + length (declared_from n ds) ≤ length tokens
+pub defs_length : {text : List ℕ} {tokens : List Token} {ds : List ThinDef} (n : ℕ) → AreThinDefs text tokens ds → length ds + length (declared_from n ds) ≤ length tokens
 defs_length n AreThinDefs.none = omega arith
 defs_length n (AreThinDefs.more {d = d} is rest whole) =
     let h = def_length is in let k = defs_length (n + 1) rest in

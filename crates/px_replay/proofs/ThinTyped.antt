@@ -1,14 +1,12 @@
 -- The program of thin definitions is typed.
-use Rattle.std.proofs.Common.{◌≡◌, ◌≢◌, ℕ, zero, suc, ◌+◌, ◌-◌, ◌<◌, ◌≤◌, ◌⊎◌, List, [], ◌∷◌, ◌++◌, length, map, Option, Some, None, sym, refl, ap, ◌∙◌, subst, inl, inr, ⊎_elim, arith, add-zero, zero-add}
+use Rattle.std.proofs.Common.{◌≡◌, ℕ, zero, suc, ◌+◌, ◌-◌, ◌≤◌, ◌⊎◌, List, [], ◌∷◌, ◌++◌, length, map, Some, sym, refl, ap, ◌∙◌, subst, inl, inr, ⊎_elim, arith, add-zero, zero-add}
 use Rattle.std.specs.List.{slice_get}
 use Rattle.std.specs.Option.{option_and_then}
 use Rattle.std.proofs.Math.ListN.{replicate}
 use Rattle.std.proofs.lemmas.List.{replicate-append-replicate}
-use Rattle.px_terms.specs.declared.types.Ty.{Ty, out-Ty}
 use Rattle.px_terms.specs.declared.types.Ty.TheVariants as type
 use Rattle.px_terms.specs.declared.types.Prop.{Prop}
-use Rattle.px_terms.specs.declared.types.Prop.TheVariants as prop
-use Rattle.px_terms.specs.declared.term.Term.{Term, out-Term}
+use Rattle.px_terms.specs.declared.term.Term.{Term}
 use Rattle.px_terms.specs.declared.term.Term.TheVariants as term
 use Rattle.px_terms.specs.declared.sequent.Context.{Context}
 use Rattle.px_terms.specs.declared.clause.Clause.{Clause}
@@ -18,7 +16,8 @@ use Rattle.px_terms.specs.declared.program.Def as definition
 use Rattle.px_terms.specs.declared.program.Declared.{Declared}
 use Rattle.px_terms.specs.declared.program.Declared.TheVariants as declared
 use Rattle.px_terms.specs.declared.program.Program.{Program}
-use Rattle.px_terms.specs.Programs.{bool_type, bool_data, false_term, true_term, constructor_at}
+use Rattle.px_terms.specs.declared.limits.TheConstants.{CLAUSE_VARIABLES}
+use Rattle.px_terms.specs.Programs.{bool_type, bool_data, constructor_at}
 use Rattle.px_terms.specs.Typing.{IsTypeLayer, AreTypes, IsType, HasTypeLayer, HaveTypes, HaveTypesInArms, HasType, HasSignature, HasTypedBody, live}
 use Rattle.px_terms.specs.Clauses.{Shape, HasShape, IsClause, comm_clause, idem_clause}
 use Rattle.px_terms.specs.Obligations.{IsDeclaredClause, IsTyped}
@@ -146,6 +145,9 @@ some_of_none (y ∷ ys) n x e at = cc
 body_of_written : {text : List ℕ} {tokens : List Token} {d : ThinDef} → IsThinDef text tokens d → (body : List Token) × IsThinTerm text d.params 1 body d.body
 body_of_written (IsThinDef.written {body = body} w n l ps r c b props o is close lawful whole) = (body, is)
 
+lawful_of_written : {text : List ℕ} {tokens : List Token} {d : ThinDef} → IsThinDef text tokens d → IsLawful d
+lawful_of_written (IsThinDef.written w m l ps r c b props o is close lawful whole) = lawful
+
 property_of_written : {text : List ℕ} {tokens : List Token} {d : ThinDef} → IsThinDef text tokens d → (n : ℕ) (p : Prop) → slice_get d.props n ≡ Some p → IsThinProp p × (2 ≤ length d.params)
 property_of_written {d} (IsThinDef.written w m l ps r c b props o is close lawful whole) n p e =
     (thin_with props n p e, (lawful.fits (λ none. some_of_none d.props n p none e)).0)
@@ -164,3 +166,28 @@ typed_program text tokens ds are = record {
       let same : o ≡ declared.Property found.place found.property = found.is ∙ ap (λ m. declared.Property m found.property) (zero-add found.place) in
       (clause.0, subst (λ x. IsDeclaredClause (program_of ds) x clause.0) (sym same) clause.1);
 }
+
+-- What a declared obligation is: a property of a definition with few parameters.
+pub record IsLawfulProperty (ds : List ThinDef) (o : Declared) : Type 0 where
+  pub place : ℕ
+  pub seen : ℕ
+  pub def : ThinDef
+  pub property : Prop
+  pub is : o ≡ declared.Property place property
+  pub found : slice_get (defs_from 0 ds) place ≡ Some (def_of seen def)
+  pub few : length def.params ≤ CLAUSE_VARIABLES
+
+pub lawful_property : (text : List ℕ) (tokens : List Token) (ds : List ThinDef) → AreThinDefs text tokens ds → (n : ℕ) (o : Declared) → slice_get (declared_from 0 ds) n ≡ Some o → IsLawfulProperty ds o
+lawful_property text tokens ds are n o e =
+    let found = declared_at 0 ds n o e in
+    let placed = at_def 0 ds found.place found.def found.at in
+    let lawful = lawful_of_written (written_at are found.place found.def found.at).1 in
+    record {
+      place = found.place;
+      seen = placed.0;
+      def = found.def;
+      property = found.property;
+      is = found.is ∙ ap (λ m. declared.Property m found.property) (zero-add found.place);
+      found = placed.1;
+      few = (lawful.fits (λ none. some_of_none found.def.props found.index found.property none found.has)).1;
+    }

@@ -1,5 +1,5 @@
 pub mod Lines
-pub mod Own
+pub mod Numbered
 pub mod Replays
 pub mod Thin
 pub mod ThinFronts

@@ -1,5 +1,6 @@
 -- What replay has done so far: the stack of open sequents, the rows that led to it, and the text that they are.
-use Rattle.std.specs.Prelude.{◌≡◌, ℕ, List, [], ◌∷◌, ◌++◌, length, map, reverse, slice_get, slice_set, Some, None, All, IsTrue, true}
+use Rattle.std.specs.Prelude.{◌≡◌, ℕ, List, [], ◌∷◌, ◌++◌, length, map, reverse, slice_get, Option, Some, All, IsTrue, true}
+use Rattle.px_terms.specs.declared.types.Ty.{Ty}
 use Rattle.px_terms.specs.declared.term.Term.{Term}
 use Rattle.px_terms.specs.declared.clause.Equation.{Equation}
 use Rattle.px_terms.specs.declared.program.Program.{Program}
@@ -14,15 +15,16 @@ use Rattle.px_terms.specs.Sequents.{side_of, IsWithinLimits, frame_put}
 use Rattle.px_terms.specs.Steps.{Step}
 use Rattle.px_terms.specs.Derivations.{Opens, Leads, Tree, DerivesObligation, rows_of}
 use Rattle.px_terms.specs.Spelling.{line_of, lines_of, rows_from}
+use Rattle.px_terms.specs.Readable.{IsReadable}
 
--- the sequent with a term put in for a variable, which is no longer live
-abbrev pub put_case : Sequent → ℕ → Term → Sequent
-put_case s v by = record {
-  context = record { tparams = s.context.tparams; funs = s.context.funs; vars = slice_set s.context.vars v None };
+-- the sequent with a term put in for a variable, and these variables
+abbrev pub put_case : Sequent → List (Option Ty) → ℕ → ℕ → Term → Sequent
+put_case s vars next v by = record {
+  context = record { tparams = s.context.tparams; funs = s.context.funs; vars = vars };
   frame = frame_put v by s.frame;
   facts = equations_put v by s.facts;
   alternatives = equations_put v by s.alternatives;
-  next = s.next;
+  next = next;
 }
 
 -- The sides of an alternative are one term.
@@ -35,7 +37,7 @@ pub record SidesAreOne (s : Sequent) (at : ℕ) : Type 0 where
 pub record StepsSide (P : Program) (s : Sequent) (at : ℕ) (side : Side) (path : List ℕ) (kind : Kind) (t : Term) : Type 0 where
   pub equation : Equation
   pub found : slice_get s.alternatives at ≡ Some equation
-  pub step : (facts : List Equation) → Step P facts (side_of equation side) path kind t
+  pub step : Step P s.facts (side_of equation side) path kind t
 
 -- Where an open sequent is marked as within the limits, it is.
 pub record IsRightlyMarked (o : Open) : Type 0 where
@@ -60,11 +62,13 @@ pub record Opened (P : Program) (n : ℕ) (s : Sequent) (r : Row) (old new : Lis
 pub record ReplaysRow (P : Program) (n : ℕ) (s : Sequent) (old new : List Open) (text rest : List ℕ) : Type 0 where
   pub row : Row
   pub opened : Opened P n s row old new
+  pub readable : IsReadable row
   pub line : text ≡ line_of row ++ 10 ∷ rest
 
 -- The text begins with rows that lead from the first sequent to this stack, and then comes the rest.
 pub record HasReplayed (P : Program) (n : ℕ) (first : Sequent) (stack : List Open) (text rest : List ℕ) : Type 0 where
   pub rows : List Row
+  pub readable : All IsReadable rows
   pub leads : Leads P n (first ∷ []) rows (sequents_of stack)
   pub lines : text ≡ lines_of rows ++ rest
 
@@ -72,6 +76,7 @@ pub record HasReplayed (P : Program) (n : ℕ) (first : Sequent) (stack : List O
 pub record ReplaysObligation (P : Program) (n : ℕ) (text rest : List ℕ) : Type 0 where
   pub tree : Tree
   pub derives : DerivesObligation P n tree
+  pub readable : All IsReadable (row.Header n tree.on ∷ rows_of tree.root)
   pub lines : text ≡ lines_of (row.Header n tree.on ∷ rows_of tree.root) ++ rest
 
 -- The text begins with trees that derive the obligations below n, and then comes the rest.
@@ -79,4 +84,5 @@ pub record ReplaysBelow (P : Program) (n : ℕ) (text rest : List ℕ) : Type 0 
   pub trees : List Tree
   pub count : length trees ≡ n
   pub each : (i : ℕ) (tree : Tree) → slice_get trees i ≡ Some tree → DerivesObligation P i tree
+  pub readable : All IsReadable (rows_from 0 trees)
   pub lines : text ≡ lines_of (rows_from 0 trees) ++ rest

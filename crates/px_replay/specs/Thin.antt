@@ -1,6 +1,5 @@
 -- Thin programs: definitions over `Bool` alone, with commutativity and idempotence. What program a text is.
 use Rattle.std.specs.Prelude.{◌≡◌, ◌≢◌, ◌≤◌, ◌+◌, ℕ, List, [], ◌∷◌, ◌++◌, length, map, slice_get, slice_range, Contains, codes, Some}
-use Rattle.std.specs.List.{flat_map}
 use Rattle.px_terms.specs.declared.types.Prop.{Prop}
 use Rattle.px_terms.specs.declared.types.Prop.TheVariants as prop
 use Rattle.px_terms.specs.declared.term.Term.{Term}

@@ -1,16 +1,22 @@
 //! The replay of a text: obligation by obligation, and row by row over a stack of open sequents.
 
-ghost use Rattle.std.specs.Prelude.{◌≡◌, ◌++◌, ◌∷◌, ◌↔◌, [], IfOk, IsTrue, Some, length, slice_get};
+ghost use Rattle.std.specs.Prelude.{◌≡◌, ◌++◌, ◌∷◌, ◌↔◌, [], ℕ, List, IfOk, IsOkUnless, IsTrue, MatchResult, Some, length, slice_get};
+ghost use Rattle.px_replay.specs.declared.lines.RowEnd.TheVariants as row_ends;
+ghost use Rattle.px_replay.specs.declared.replay.ReplayEnd.TheVariants as ends;
+ghost use Rattle.px_replay.specs.declared.opened.Open.{Open};
 ghost use Rattle.px_terms.specs.Obligations.{AllHold};
 ghost use Rattle.px_terms.specs.Plain.{IsPlainProgram};
 ghost use Rattle.px_terms.specs.Spelling.{IsDerivationText, line_of};
+ghost use Rattle.px_replay.specs.Numbered.{HasNumbers};
 ghost use Rattle.px_replay.specs.Replays.{IsRightlyMarked, HasReplayed, ReplaysRow, ReplaysObligation};
 
 use crate::clauses::{clause_of, open_obligation};
 use crate::lines::{RowEnd, read_row};
 use crate::opened::Open;
 use crate::rows::open_sequent;
-use px_terms::{Declared, NoMemory, Program, Row, derivations_are_sound, stack_is_tree};
+use px_terms::{
+    Declared, NoMemory, Program, Row, derivations_are_sound, one_opening, stack_is_tree,
+};
 use sqlite_items::Items;
 use std::alloc::{AllocError, Global};
 
@@ -24,18 +30,24 @@ pub enum ReplayEnd {
 }
 
 impl From<NoMemory> for ReplayEnd {
+    ghost from_gives = { λ _ end. end ≡ ends.NoMemory };
+
     fn from(_end: NoMemory) -> ReplayEnd {
         ReplayEnd::NoMemory
     }
 }
 
 impl From<AllocError> for ReplayEnd {
+    ghost from_gives = { λ _ end. end ≡ ends.NoMemory };
+
     fn from(_error: AllocError) -> ReplayEnd {
         ReplayEnd::NoMemory
     }
 }
 
 impl From<RowEnd> for ReplayEnd {
+    ghost from_gives = { λ row_end end. row_end ≡ row_ends.NoMemory → end ≡ ends.NoMemory };
+
     fn from(end: RowEnd) -> ReplayEnd {
         match end {
             RowEnd::NotARow => ReplayEnd::Rejected,
@@ -51,11 +63,14 @@ pub struct Accepted {
 }
 
 /// Replays the text of a derivation of the program: a header and the rows of a tree for each obligation, in
-/// order, and nothing more. Rejected where the text is no derivation. It keeps the open sequents of one tree
-/// on a stack, and looks at each byte once.
+/// order, and nothing more. Rejected exactly where the text is no derivation, of a program whose variables and
+/// constructors can be numbered. It keeps the open sequents of one tree on a stack, and looks at each byte
+/// once. It takes memory.
 pub fn replay_text(alloc: Global, program: &Program, text: &[u8]) -> Result<Accepted, ReplayEnd>
     ensures accepted { IfOk result (λ _. IsDerivationText program.now text.now) }
     ensures count { IfOk result (λ accepted. accepted.obligations ≡ length program.now.declared) }
+    // Besides want of memory, each derivation is accepted: what is rejected is none.
+    ensures rejected { HasNumbers program.now → IsDerivationText program.now text.now → IsOkUnless result ReplayEnd.NoMemory }
     // What is accepted is true, where the program is one over truth values.
     ensures holds { IfOk result (λ _. IsPlainProgram program.now → AllHold program.now) }
 {
@@ -83,17 +98,19 @@ fn replay_obligation<'a>(
     text: &'a [u8],
 ) -> Result<&'a [u8], ReplayEnd>
     requires { slice_get program.now.declared number ≡ Some declared }
-    ensures { IfOk result (λ rest. ReplaysObligation program.now number text.now rest.now) }
+    ensures replays { IfOk result (λ rest. ReplaysObligation program.now number text.now rest.now) }
+    ensures only { HasNumbers program.now → (rest : List ℕ) → ReplaysObligation program.now number text.now rest → MatchResult result (λ found. found.now ≡ rest) (λ end. end ≡ ReplayEnd.NoMemory) }
 {
+    stack_is_tree();
     let first = open_obligation(alloc, clause_of(alloc, program, declared)?)?;
     let rows = after_header(alloc, number, text)?;
-    stack_is_tree();
     replay_tree(alloc, program, number, Open::first(first), rows)
 }
 
 /// The text after the header of an obligation, without induction.
 fn after_header<'a>(alloc: Global, number: u32, text: &'a [u8]) -> Result<&'a [u8], ReplayEnd>
-    ensures { IfOk result (λ rest. text.now ≡ line_of (Row.Header number []) ++ 10 ∷ rest.now) }
+    ensures header { IfOk result (λ rest. text.now ≡ line_of (Row.Header number []) ++ 10 ∷ rest.now) }
+    ensures only { (rest : List ℕ) → text.now ≡ line_of (Row.Header number []) ++ 10 ∷ rest → MatchResult result (λ found. found.now ≡ rest) (λ end. end ≡ ReplayEnd.NoMemory) }
 {
     let read = read_row(alloc, text)?;
     if !is_header(&read.row, number) {
@@ -121,7 +138,8 @@ fn replay_tree<'a>(
     text: &'a [u8],
 ) -> Result<&'a [u8], ReplayEnd>
     requires { IsRightlyMarked first }
-    ensures { IfOk result (λ rest. HasReplayed program.now number first.sequent [] text.now rest.now) }
+    ensures replays { IfOk result (λ rest. HasReplayed program.now number first.sequent [] text.now rest.now) }
+    ensures only { HasNumbers program.now → (rest : List ℕ) → HasReplayed program.now number first.sequent [] text.now rest → MatchResult result (λ found. found.now ≡ rest) (λ end. end ≡ ReplayEnd.NoMemory) }
 {
     let mut stack = Items::new(alloc);
     stack.push(first)?;
@@ -142,8 +160,10 @@ fn replay_row<'a>(
     stack: &mut Items<Open>,
 ) -> Result<&'a [u8], ReplayEnd>
     requires { IsRightlyMarked top }
-    ensures { IfOk result (λ rest. ReplaysRow program.now number top.sequent stack.old stack.new text.now rest.now) }
+    ensures replays { IfOk result (λ rest. ReplaysRow program.now number top.sequent stack.old stack.new text.now rest.now) }
+    ensures only { HasNumbers program.now → (new : List Open) (rest : List ℕ) → ReplaysRow program.now number top.sequent stack.old new text.now rest → MatchResult result (λ found. (found.now ≡ rest) × (stack.new ≡ new)) (λ end. end ≡ ReplayEnd.NoMemory) }
 {
+    one_opening();
     let read = read_row(alloc, text)?;
     open_sequent(alloc, program, number, top, &read.row, stack)?;
     Ok(read.rest)

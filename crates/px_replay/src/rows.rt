@@ -1,8 +1,13 @@
 //! Rows: what a row does to the top of the stack of open sequents.
 
-ghost use Rattle.std.specs.Prelude.{◌≡◌, ◌++◌, ◌∷◌, ◌⊎◌, [], IfOk, OnOk, IsTrue, All, map, reverse, List};
+ghost use Rattle.std.specs.Prelude.{◌≡◌, ◌≢◌, ℕ, ◌++◌, ◌∷◌, ◌⊎◌, ◌↔◌, [], IfOk, OnOk, IsOkUnless, IsTrue, All, map, reverse, List};
+ghost use Rattle.px_terms.specs.declared.term.Term.{Term};
+ghost use Rattle.px_terms.specs.declared.sequent.Sequent.{Sequent};
+ghost use Rattle.px_terms.specs.declared.row.Target.{Target as StepTarget};
+ghost use Rattle.px_terms.specs.declared.row.Kind.{Kind as StepKind};
 ghost use Rattle.px_terms.specs.Sequents.{IsWithinLimits};
 ghost use Rattle.px_terms.specs.Derivations.{Opens};
+ghost use Rattle.px_replay.specs.Numbered.{HasNumbers};
 ghost use Rattle.px_replay.specs.Replays.{SidesAreOne, StepsSide, IsRightlyMarked, child_within, Opened};
 
 use crate::cases::cases;
@@ -15,7 +20,7 @@ use sqlite_items::{Items, at};
 use std::alloc::Global;
 
 /// Applies a row to a sequent of obligation `number`, and puts its children on the stack, the first on top.
-/// Rejected where the row does not apply.
+/// Rejected exactly where the row does not apply. It takes memory.
 pub(crate) fn open_sequent(
     alloc: Global,
     program: &Program,
@@ -25,7 +30,8 @@ pub(crate) fn open_sequent(
     stack: &mut Items<Open>,
 ) -> Result<(), ReplayEnd>
     requires { IsRightlyMarked top }
-    ensures { OnOk result (Opened program.now number top.sequent row.now stack.old stack.new) }
+    ensures opened { OnOk result (Opened program.now number top.sequent row.now stack.old stack.new) }
+    ensures only { HasNumbers program.now → (children : List Sequent) → Opens program.now number top.sequent row.now children → IsOkUnless result ReplayEnd.NoMemory }
 {
     if let Row::Step { target, path, kind } = row {
         return open_stepped(alloc, program, number, top, *target, path, *kind, stack);
@@ -45,7 +51,8 @@ fn open_stepped(
     stack: &mut Items<Open>,
 ) -> Result<(), ReplayEnd>
     requires { IsRightlyMarked top }
-    ensures { OnOk result (Opened program.now number top.sequent (Row.Step target path.now kind) stack.old stack.new) }
+    ensures opened { OnOk result (Opened program.now number top.sequent (Row.Step target path.now kind) stack.old stack.new) }
+    ensures only { (children : List Sequent) → Opens program.now number top.sequent (Row.Step target path.now kind) children → IsOkUnless result ReplayEnd.NoMemory }
 {
     let Open { sequent, is_within } = top;
     let child = step(
@@ -55,7 +62,7 @@ fn open_stepped(
     Ok(())
 }
 
-/// Applies a row that leaves nothing of the sequent, or several children of it.
+/// Applies a row other than a step: one that leaves nothing of the sequent, or several children of it.
 fn open_lent(
     alloc: Global,
     program: &Program,
@@ -64,7 +71,9 @@ fn open_lent(
     row: &Row,
     stack: &mut Items<Open>,
 ) -> Result<(), ReplayEnd>
-    ensures { OnOk result (Opened program.now number sequent.now row.now stack.old stack.new) }
+    requires { (target : StepTarget) (path : List ℕ) (kind : StepKind) → row.now ≢ Row.Step target path kind }
+    ensures opened { OnOk result (Opened program.now number sequent.now row.now stack.old stack.new) }
+    ensures only { HasNumbers program.now → (children : List Sequent) → Opens program.now number sequent.now row.now children → IsOkUnless result ReplayEnd.NoMemory }
 {
     match row {
         Row::Same { alternative } => {
@@ -84,7 +93,7 @@ fn open_lent(
 
 /// The sides of this alternative are one term.
 fn is_same(sequent: &Sequent, alternative: u32) -> bool
-    ensures { IsTrue result → SidesAreOne sequent.now alternative }
+    ensures { IsTrue result ↔ SidesAreOne sequent.now alternative }
 {
     match at(sequent.alternatives.as_slice(), alternative as usize) {
         Some(equation) => same_term(&equation.left, &equation.right),
@@ -108,6 +117,7 @@ fn step(
     requires { IsTrue is_within → IsWithinLimits sequent }
     ensures opens { IfOk result (λ child. Opens program.now number sequent (Row.Step target path.now kind) (child ∷ [])) }
     ensures small { IfOk result IsWithinLimits }
+    ensures only { (children : List Sequent) → Opens program.now number sequent (Row.Step target path.now kind) children → IsOkUnless result ReplayEnd.NoMemory }
 {
     let Target::Alternative {
         number: place,
@@ -126,7 +136,7 @@ fn step(
 
 /// The sequent was within the limits before its side was stepped, or it is now.
 fn is_child_within(was_within: bool, child: &Sequent) -> bool
-    ensures { IsTrue result → IsTrue was_within ⊎ IsWithinLimits child.now }
+    ensures { IsTrue result ↔ (IsTrue was_within ⊎ IsWithinLimits child.now) }
 {
     was_within || is_within_limits(child)
 }
@@ -141,7 +151,8 @@ fn step_side(
     path: &Path,
     kind: Kind,
 ) -> Result<Term, ReplayEnd>
-    ensures { IfOk result (StepsSide program.now sequent.now place side path.now kind) }
+    ensures steps { IfOk result (StepsSide program.now sequent.now place side path.now kind) }
+    ensures only { (t : Term) → StepsSide program.now sequent.now place side path.now kind t → IsOkUnless result ReplayEnd.NoMemory }
 {
     let Some(equation) = at(sequent.alternatives.as_slice(), place as usize) else {
         return Err(ReplayEnd::Rejected);

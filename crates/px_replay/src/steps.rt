@@ -1,8 +1,10 @@
 //! Steps: a part of a term becomes what its definition or its match gives.
 
-ghost use Rattle.std.specs.Prelude.{◌≡◌, IfOk, List};
-ghost use Rattle.px_terms.specs.declared.term.Term.{out-Term};
+ghost use Rattle.std.specs.Prelude.{◌≡◌, ◌≤◌, IfOk, IsOkUnless, List};
+ghost use Rattle.px_terms.specs.declared.term.Term.{Term, out-Term};
 ghost use Rattle.px_terms.specs.declared.clause.Equation.{Equation};
+ghost use Rattle.px_terms.specs.declared.limits.TheConstants.{SEQUENT_NODES};
+ghost use Rattle.px_terms.specs.Terms.{term_size};
 ghost use Rattle.px_terms.specs.Steps.{Turns, Step};
 
 use crate::replay::ReplayEnd;
@@ -10,7 +12,7 @@ use crate::small::is_small;
 use px_terms::limits::SEQUENT_NODES;
 use px_terms::{
     Head, Kind, Path, Program, Sigma, Term, at_path, copy, copy_funs, copy_terms, copy_tys,
-    instance, replace_at, size, size_of_instance,
+    instance, replace_at, size_of_instance,
 };
 use sqlite_items::at;
 use std::alloc::Global;
@@ -18,8 +20,8 @@ use std::alloc::Global;
 #[cfg(test)]
 mod tests;
 
-/// The term that a step of this kind at this path makes of a side. Rejected where there is no such step,
-/// or where its result is over the limits of a sequent.
+/// The term that a step of this kind at this path makes of a side. Rejected exactly where there is no such step,
+/// or where its result is over the limits of a sequent. It takes memory.
 pub(crate) fn stepped(
     alloc: Global,
     program: &Program,
@@ -27,7 +29,8 @@ pub(crate) fn stepped(
     path: &Path,
     kind: Kind,
 ) -> Result<Term, ReplayEnd>
-    ensures { IfOk result (λ t. (facts : List Equation) → Step program.now facts side.now path.now kind t) }
+    ensures steps { IfOk result (λ t. (facts : List Equation) → Step program.now facts side.now path.now kind t) }
+    ensures only { (facts : List Equation) (t : Term) → Step program.now facts side.now path.now kind t → IsOkUnless result ReplayEnd.NoMemory }
 {
     let Some(part) = at_path(side, path) else {
         return Err(ReplayEnd::Rejected);
@@ -42,9 +45,11 @@ pub(crate) fn stepped(
     Ok(whole)
 }
 
-/// What the part becomes by a step of this kind.
+/// What the part becomes by a step of this kind. Rejected where it becomes nothing, or more than a term of a
+/// sequent may be.
 fn turned(alloc: Global, program: &Program, part: &Term, kind: Kind) -> Result<Term, ReplayEnd>
-    ensures { IfOk result (λ t. (facts : List Equation) → Turns program.now facts kind (out-Term part.now) t) }
+    ensures turns { IfOk result (λ t. (facts : List Equation) → Turns program.now facts kind (out-Term part.now) t) }
+    ensures only { (facts : List Equation) (t : Term) → Turns program.now facts kind (out-Term part.now) t → term_size t ≤ SEQUENT_NODES → IsOkUnless result ReplayEnd.NoMemory }
 {
     match kind {
         Kind::Unfold => unfolded(alloc, program, part),
@@ -56,7 +61,8 @@ fn turned(alloc: Global, program: &Program, part: &Term, kind: Kind) -> Result<T
 /// The body of the definition that the part calls, with the types, functions and arguments put in. Rejected,
 /// before it is built, where it has more nodes than a term of a sequent may have.
 fn unfolded(alloc: Global, program: &Program, part: &Term) -> Result<Term, ReplayEnd>
-    ensures { IfOk result (λ t. (facts : List Equation) → Turns program.now facts Kind.Unfold (out-Term part.now) t) }
+    ensures turns { IfOk result (λ t. (facts : List Equation) → Turns program.now facts Kind.Unfold (out-Term part.now) t) }
+    ensures only { (facts : List Equation) (t : Term) → Turns program.now facts Kind.Unfold (out-Term part.now) t → term_size t ≤ SEQUENT_NODES → IsOkUnless result ReplayEnd.NoMemory }
 {
     let Term::Call { fun, funs, args } = part else {
         return Err(ReplayEnd::Rejected);
@@ -67,9 +73,6 @@ fn unfolded(alloc: Global, program: &Program, part: &Term) -> Result<Term, Repla
     let Some(def) = at(program.defs.as_slice(), number as usize) else {
         return Err(ReplayEnd::Rejected);
     };
-    if size(&def.body) > SEQUENT_NODES {
-        return Err(ReplayEnd::Rejected);
-    }
     let sigma = Sigma {
         types: copy_tys(alloc, fun.types.as_slice())?,
         funs: copy_funs(alloc, funs.as_slice())?,
@@ -81,9 +84,10 @@ fn unfolded(alloc: Global, program: &Program, part: &Term) -> Result<Term, Repla
     Ok(instance(alloc, &def.body, &sigma)?)
 }
 
-/// The arm that the part, a match on a constructor without fields, takes.
+/// The arm that the part, a match on a constructor without fields, takes. Rejected where it is no such match.
 fn selected(alloc: Global, program: &Program, part: &Term) -> Result<Term, ReplayEnd>
-    ensures { IfOk result (λ t. (facts : List Equation) → Turns program.now facts Kind.Select (out-Term part.now) t) }
+    ensures turns { IfOk result (λ t. (facts : List Equation) → Turns program.now facts Kind.Select (out-Term part.now) t) }
+    ensures only { (facts : List Equation) (t : Term) → Turns program.now facts Kind.Select (out-Term part.now) t → term_size t ≤ SEQUENT_NODES → IsOkUnless result ReplayEnd.NoMemory }
 {
     let Term::Match { on, arms, .. } = part else {
         return Err(ReplayEnd::Rejected);

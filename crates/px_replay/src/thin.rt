@@ -1,5 +1,6 @@
 ghost use Rattle.std.specs.Prelude.{◌≡◌, ◌≤◌, IfOk, length};
 ghost use Rattle.px_terms.specs.Plain.{IsPlainProgram};
+ghost use Rattle.px_replay.specs.Numbered.{HasNumbers};
 ghost use Rattle.px_replay.specs.Thin.{IsThinSource};
 
 mod definition;
@@ -63,6 +64,7 @@ pub fn read_thin(alloc: Global, text: &[u8]) -> Result<Program, ThinEnd>
     requires { length text.now ≤ PROGRAM_BYTES }
     ensures thin { IfOk result (λ program. IsThinSource text.now program) }
     ensures plain { IfOk result IsPlainProgram }
+    ensures numbered { IfOk result HasNumbers }
 {
     let read = tokens(alloc, text)?;
     let draft = read_defs(alloc, text, read.as_slice())?;

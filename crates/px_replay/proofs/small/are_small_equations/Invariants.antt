@@ -1,4 +1,4 @@
-use Rattle.std.proofs.Common.{take, All, IfSome, Option}
+use Rattle.std.proofs.Common.{take, All}
 use Rattle.px_terms.specs.Sequents.{IsSmallEquation}
 use Rattle.px_replay.proofs.small.are_small_equations.Given as goal
 

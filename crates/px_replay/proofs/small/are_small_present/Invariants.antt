@@ -1,4 +1,4 @@
-use Rattle.std.proofs.Common.{take, All, IfSome, Option}
+use Rattle.std.proofs.Common.{take, All}
 use Rattle.px_terms.specs.declared.sequent.Present.{Present}
 use Rattle.px_terms.specs.Sequents.{IsSmall}
 use Rattle.px_replay.proofs.small.are_small_present.Given as goal

@@ -1,7 +1,10 @@
-use Rattle.std.proofs.Common.{sym, subst, ap, ◌∙◌, List, arith, length, ◌≡◌, map, ◌∷◌, codes, ℕ}
+use Rattle.std.proofs.Common.{sym, subst, List, arith, length, ◌≤◌, ℕ}
 use Rattle.px_terms.specs.Obligations.{IsTyped}
 use Rattle.px_lexer.specs.declared.token.Token.{Token}
 use Rattle.px_replay.specs.Thin.{AreDistinct, AreThinDefs, IsThinSource}
+use Rattle.px_terms.specs.declared.limits.TheConstants.{PROGRAM_BYTES}
+use Rattle.px_replay.specs.Numbered.{HasNumbers}
+use Rattle.px_replay.proofs.ThinNumbers.{numbered_program}
 use Rattle.px_replay.proofs.ThinPlain.{plain_source}
 use Rattle.px_replay.proofs.ThinPrograms.{few_tokens}
 use Rattle.px_replay.proofs.ThinTyped.{typed_program}
@@ -24,4 +27,10 @@ returns c =
       numbered = numbered;
       typed = subst (λ program. IsTyped program) (sym numbered) (typed_program c.args.text.now c.in_ok-read.read read.ds are);
     } in
-    record { thin = source; plain = plain_source c.args.text.now c.in_ok-program.program source }
+    let count = few_tokens 0 c.in_ok-read.read (length c.args.text.now) c.in_ok-read.ensures.spans in
+    let few : length c.in_ok-read.read ≤ PROGRAM_BYTES = omega (arith, count, c.requires) in
+    record {
+      thin = source;
+      plain = plain_source c.args.text.now c.in_ok-program.program source;
+      numbered = subst (λ program. HasNumbers program) (sym numbered) (numbered_program c.args.text.now c.in_ok-read.read read.ds are few);
+    }

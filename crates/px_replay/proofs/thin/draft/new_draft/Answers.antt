@@ -1,4 +1,4 @@
-use Rattle.std.proofs.Common.{◌≡◌, ◌∙◌, ◌++◌, ◌∷◌, [], List, ℕ, codes, ap, refl, subst, sym, map}
+use Rattle.std.proofs.Common.{◌≡◌, ◌∙◌, ◌++◌, ◌∷◌, [], List, ℕ, codes, ap}
 use Rattle.px_replay.specs.Thin.{AreDistinct}
 use Rattle.px_replay.proofs.ThinLists.{AreDistinct-push}
 use Rattle.px_replay.proofs.thin.draft.new_draft.Goals as goal

@@ -1,4 +1,4 @@
-use Rattle.px_replay.proofs.ThinPrograms.{no_defs, one_more_def, all_defs, shorter_rest, few_defs}
+use Rattle.px_replay.proofs.ThinPrograms.{no_defs, one_more_def, shorter_rest, few_defs}
 use Rattle.px_replay.proofs.thin.draft.read_defs.Goals as goal
 
 pub loop-rest-init : goal.loop-rest-init

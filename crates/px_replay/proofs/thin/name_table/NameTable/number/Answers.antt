@@ -1,4 +1,4 @@
-use Rattle.std.proofs.Common.{◌≡◌, Some, string_bytes, slice_get, ◌∙◌, sym}
+use Rattle.std.proofs.Common.{string_bytes, sym}
 use Rattle.px_replay.proofs.ThinNames.{name_at_position}
 use Rattle.px_replay.proofs.thin.name_table.NameTable.number.Goals as goal
 
