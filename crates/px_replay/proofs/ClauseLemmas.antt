@@ -12,7 +12,7 @@ use Rattle.px_terms.specs.declared.program.Declared.TheVariants as declared
 use Rattle.px_terms.specs.declared.program.Program.{Program}
 use Rattle.px_terms.specs.Clauses.{Shape, HasShape, IsClause, comm, idem, comm_clause, idem_clause}
 use Rattle.px_terms.specs.Obligations.{IsDeclaredClause, of_property, of_lemma, lemma_clause}
-use Rattle.px_replay.specs.Numbered.{HasNumberedVariables}
+use Rattle.px_terms.specs.Numbered.{HasNumberedVariables}
 
 -- what is found is one
 pub found_one : {A : Type 0} (xs : List A) (n : ℕ) (a b : A) → slice_get xs n ≡ Some a → slice_get xs n ≡ Some b → a ≡ b

@@ -15,7 +15,7 @@ use Rattle.px_terms.specs.Derivations.{Opens, Leads, goes_on, Tree, DerivesOblig
 use Rattle.px_terms.specs.Readable.{IsReadable}
 use Rattle.px_terms.specs.Spelling.{line_of, lines_of, rows_from, IsDerivationText}
 use Rattle.px_replay.specs.declared.opened.Open.{Open}
-use Rattle.px_replay.specs.Numbered.{HasNumbers, HasNumberedVariables}
+use Rattle.px_terms.specs.Numbered.{HasNumbers, HasNumberedVariables}
 use Rattle.px_replay.specs.Replays.{child_within, sequents_of, ReplaysRow, HasReplayed, ReplaysObligation}
 use Rattle.px_replay.proofs.ReplayLemmas.{lines-cons, pushed_sequents, top_sequent}
 use Rattle.px_replay.proofs.ClauseLemmas.{one_clause, found_one}

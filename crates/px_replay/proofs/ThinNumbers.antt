@@ -12,7 +12,7 @@ use Rattle.px_terms.specs.Programs.{bool_type, bool_data}
 use Rattle.px_terms.specs.Obligations.{IsObligation, IsDeclaredClause}
 use Rattle.px_lexer.specs.declared.token.Token.{Token}
 use Rattle.px_replay.specs.Thin.{ThinDef, AreThinDefs, program_of}
-use Rattle.px_replay.specs.Numbered.{HasNumberedVariables, HasNumbers}
+use Rattle.px_terms.specs.Numbered.{HasNumberedVariables, HasNumbers}
 use Rattle.px_replay.proofs.ClauseLemmas.{declares, of_definition, found_one}
 use Rattle.px_replay.proofs.ThinTyped.{def_of, lawful_property}
 use Rattle.px_replay.proofs.ThinPrograms.{defs_length}

@@ -1,5 +1,4 @@
 pub mod Lines
-pub mod Numbered
 pub mod Replays
 pub mod Thin
 pub mod ThinFronts

@@ -11,7 +11,7 @@ ghost use Rattle.px_terms.specs.Typing.{live};
 ghost use Rattle.px_terms.specs.Clauses.{numbers_from};
 ghost use Rattle.px_terms.specs.Sequents.{IsWithinLimits, frame_put};
 ghost use Rattle.px_terms.specs.Derivations.{Opens, case_of, cases_from};
-ghost use Rattle.px_replay.specs.Numbered.{HasNumbers};
+ghost use Rattle.px_terms.specs.Numbered.{HasNumbers};
 ghost use Rattle.px_replay.specs.Replays.{put_case};
 
 use crate::replay::ReplayEnd;

@@ -9,7 +9,7 @@ ghost use Rattle.px_terms.specs.Clauses as definitions;
 ghost use Rattle.px_terms.specs.Obligations as obligations;
 ghost use Rattle.px_terms.specs.Sequents.{first_sequent};
 ghost use Rattle.px_terms.specs.Typing.{live};
-ghost use Rattle.px_replay.specs.Numbered.{HasNumberedVariables};
+ghost use Rattle.px_terms.specs.Numbered.{HasNumberedVariables};
 
 use crate::replay::ReplayEnd;
 use px_terms::{

@@ -7,7 +7,7 @@ ghost use Rattle.px_replay.specs.declared.opened.Open.{Open};
 ghost use Rattle.px_terms.specs.Obligations.{AllHold};
 ghost use Rattle.px_terms.specs.Plain.{IsPlainProgram};
 ghost use Rattle.px_terms.specs.Spelling.{IsDerivationText, line_of};
-ghost use Rattle.px_replay.specs.Numbered.{HasNumbers};
+ghost use Rattle.px_terms.specs.Numbered.{HasNumbers};
 ghost use Rattle.px_replay.specs.Replays.{IsRightlyMarked, HasReplayed, ReplaysRow, ReplaysObligation};
 
 use crate::clauses::{clause_of, open_obligation};

@@ -7,7 +7,7 @@ ghost use Rattle.px_terms.specs.declared.row.Target.{Target as StepTarget};
 ghost use Rattle.px_terms.specs.declared.row.Kind.{Kind as StepKind};
 ghost use Rattle.px_terms.specs.Sequents.{IsWithinLimits};
 ghost use Rattle.px_terms.specs.Derivations.{Opens};
-ghost use Rattle.px_replay.specs.Numbered.{HasNumbers};
+ghost use Rattle.px_terms.specs.Numbered.{HasNumbers};
 ghost use Rattle.px_replay.specs.Replays.{SidesAreOne, StepsSide, IsRightlyMarked, child_within, Opened};
 
 use crate::cases::cases;

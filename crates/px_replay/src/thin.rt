@@ -1,6 +1,6 @@
 ghost use Rattle.std.specs.Prelude.{◌≡◌, ◌≤◌, IfOk, length};
 ghost use Rattle.px_terms.specs.Plain.{IsPlainProgram};
-ghost use Rattle.px_replay.specs.Numbered.{HasNumbers};
+ghost use Rattle.px_terms.specs.Numbered.{HasNumbers};
 ghost use Rattle.px_replay.specs.Thin.{IsThinSource};
 
 mod definition;

@@ -1,5 +1,5 @@
 use Rattle.px_terms.specs.Spelling.{IsDerivationText}
-use Rattle.px_replay.specs.Numbered.{HasNumbers}
+use Rattle.px_terms.specs.Numbered.{HasNumbers}
 use Rattle.px_replay.specs.Replays.{ReplaysBelow}
 use Rattle.px_replay.proofs.Closings.{IsRestOf}
 use Rattle.px_replay.proofs.replay.replay_text.Given as goal

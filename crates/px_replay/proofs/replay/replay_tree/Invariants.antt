@@ -1,6 +1,6 @@
 use Rattle.std.proofs.Common.{length, All, List, [], ℕ}
 use Rattle.px_replay.specs.Replays.{IsRightlyMarked, sequents_of, HasReplayed}
-use Rattle.px_replay.specs.Numbered.{HasNumbers}
+use Rattle.px_terms.specs.Numbered.{HasNumbers}
 use Rattle.px_replay.proofs.Closings.{Closes}
 use Rattle.px_replay.proofs.replay.replay_tree.Given as goal
 

@@ -3,7 +3,7 @@ use Rattle.px_terms.specs.Obligations.{IsTyped}
 use Rattle.px_lexer.specs.declared.token.Token.{Token}
 use Rattle.px_replay.specs.Thin.{AreDistinct, AreThinDefs, IsThinSource}
 use Rattle.px_terms.specs.declared.limits.TheConstants.{PROGRAM_BYTES}
-use Rattle.px_replay.specs.Numbered.{HasNumbers}
+use Rattle.px_terms.specs.Numbered.{HasNumbers}
 use Rattle.px_replay.proofs.ThinNumbers.{numbered_program}
 use Rattle.px_replay.proofs.ThinPlain.{plain_source}
 use Rattle.px_replay.proofs.ThinPrograms.{few_tokens}
