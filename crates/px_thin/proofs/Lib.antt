@@ -1,3 +1,4 @@
 pub mod Layers
 pub mod Every
 pub mod DefLists
+pub mod OneThin
