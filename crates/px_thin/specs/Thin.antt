@@ -91,7 +91,7 @@ pub record AreThinParts (raws : List RawDef) (defs : List definition.Def) (decla
   pub few_defs : length raws < 2 ^ 32
   pub few_declared : length declared < 2 ^ 32
 
--- there are no declarations but definitions: the one datatype is `Bool`
+-- nothing else than definitions is declared: datatype 0 is always `Bool`, and there is no other
 pub record HasDefinitionsAlone (raw : RawProgram) : Type 0 where
   pub datatypes : length raw.datatypes ≡ 1
   pub claims : raw.claims ≡ []

@@ -115,10 +115,7 @@ fn thin_arm(alloc: Global, params: usize, raw: &RawArm) -> Result<Arm, ThinEnd>
         return Err(ThinEnd::NotThin);
     }
     let body = thin_term(alloc, params, &raw.body)?;
-    Ok(Arm {
-        con: raw.con,
-        body,
-    })
+    Ok(Arm { con: raw.con, body })
 }
 
 /// The match on `on` with these arms. It takes memory.
