@@ -1,4 +1,4 @@
--- What the ends of this crate's calls say.
+-- What the answers of this crate's calls say.
 use Rattle.std.specs.Prelude.{◌≡◌, ◌≢◌, ◌⊎◌, ℕ, ◌<◌, [], ◌∷◌, Result, Ok, Err}
 use Rattle.px_terms.specs.declared.program.Program.{Program}
 use Rattle.px_terms.specs.declared.raw.RawArm.{RawArm}

@@ -9,6 +9,8 @@ mod heads;
 mod laws;
 mod programs;
 mod terms;
+#[cfg(test)]
+mod tests;
 
 pub use end::ThinEnd;
 pub use laws::one_thin_program;
