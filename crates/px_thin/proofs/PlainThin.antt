@@ -1,0 +1,91 @@
+-- A thin program is plain, and what is numbered in it has a number below 2^32.
+use Rattle.std.proofs.Common.{◌≡◌, ℕ, zero, suc, ◌+◌, ◌<◌, ◌≤◌, ◌^◌, List, [], ◌∷◌, ◌++◌, length, Some, None, sym, refl, ap, ◌∙◌, subst, arith, length-append, zero-add, replicate}
+use Rattle.std.proofs.lemmas.List.{length-replicate}
+use Rattle.std.specs.List.{slice_get}
+use Rattle.px_terms.specs.declared.types.Prop.{Prop}
+use Rattle.px_terms.specs.declared.types.Ty.{Ty}
+use Rattle.px_terms.specs.declared.term.Term.{Term, out-Term}
+use Rattle.px_terms.specs.declared.term.Term.TheVariants as term
+use Rattle.px_terms.specs.declared.clause.Clause.{Clause}
+use Rattle.px_terms.specs.declared.program.DataDef.{DataDef}
+use Rattle.px_terms.specs.declared.program.Def as definition
+use Rattle.px_terms.specs.declared.program.Declared.{Declared}
+use Rattle.px_terms.specs.declared.program.Declared.TheVariants as declared
+use Rattle.px_terms.specs.declared.program.Program.{Program}
+use Rattle.px_terms.specs.declared.raw.RawKind.{RawKind}
+use Rattle.px_terms.specs.declared.raw.RawKind.TheOpen.{RawKind-F}
+use Rattle.px_terms.specs.declared.raw.RawTerm.{RawTerm}
+use Rattle.px_terms.specs.declared.raw.RawArm.{RawArm}
+use Rattle.px_terms.specs.declared.raw.RawProgram.{RawProgram}
+use Rattle.px_terms.specs.Programs.{bool_type, bool_data}
+use Rattle.px_terms.specs.Plain.{IsPlainLayer, ArePlain, IsPlain, AreBools, IsPlainDef, IsPlainProgram}
+use Rattle.px_terms.specs.Clauses.{IsClause, comm_clause, idem_clause}
+use Rattle.px_terms.specs.Obligations.{IsDeclaredClause, IsObligation}
+use Rattle.px_terms.specs.Numbered.{HasNumbers}
+use Rattle.px_thin.specs.Thin.{IsThinLayer, variable, truth, choice, AreThinArms, false_first, true_first, IsThinDef, bool_def, IsThinProgram}
+use Rattle.px_thin.proofs.Typed.{def_at, at_def, declared_at, has_property, typed_program}
+
+mutual
+  -- a thin term is plain
+  plain_layer : {params : ℕ} {y : RawKind-F RawKind RawArm RawTerm} {t : Term} → IsThinLayer params y t → IsPlain t
+  plain_layer (variable {n = n} below e) = rw (e, term.outs-Free n) IsPlainLayer.variable
+  plain_layer (truth {k = k} below e) = rw (e, term.outs-Con 0 k [] []) IsPlainLayer.truth
+  plain_layer (choice {on = on} {a = a} {b = b} is_on are e) = rw (e, term.outs-Match on 0 [] (a ∷ b ∷ [])) (IsPlainLayer.choice (plain_layer is_on) (plain_arms are))
+
+  plain_arms : {params : ℕ} {arms : List RawArm} {a b : Term} → AreThinArms params arms a b → ArePlain (a ∷ b ∷ [])
+  plain_arms (false_first for0 is_a for1 is_b) = ArePlain.more (plain_layer is_a) (ArePlain.more (plain_layer is_b) ArePlain.none)
+  plain_arms (true_first for1 is_b for0 is_a) = ArePlain.more (plain_layer is_a) (ArePlain.more (plain_layer is_b) ArePlain.none)
+
+are_bools : (params : ℕ) → AreBools (replicate params bool_type)
+are_bools zero = AreBools.none
+are_bools (suc params) = AreBools.more (are_bools params)
+
+pub plain_program : (raw : RawProgram) (P : Program) → IsThinProgram raw P → IsPlainProgram P
+plain_program raw P thin = record {
+  typed = typed_program raw P thin;
+  datatypes = thin.datatypes;
+  plain = λ n d e. let found = def_at thin.parts.are_defs n d e in
+      subst (λ x. IsPlainDef x) (sym found.2.is) (record { tparams = refl; funs = refl; params = are_bools (length found.0.params); result = refl; body = plain_layer found.2.is_body });
+  lemmas = thin.lemmas;
+}
+
+-- the clause of a property has no more variables than the definition has parameters
+few_of_property : (P : Program) (n most : ℕ) {p : Prop} {clause : Clause} → IsClause P n p clause → ((d : definition.Def) → slice_get P.defs n ≡ Some d → length d.params ≤ most) → length clause.vars ≤ most
+few_of_property P n most (IsClause.comm {d = d} at s shape e) few =
+    let vars : length (s.leading ++ s.last ∷ s.last ∷ []) ≤ most = omega (arith, few d at, ap length shape) in
+    rw e vars
+few_of_property P n most (IsClause.idem {d = d} at s shape result e) few =
+    let vars : length (s.leading ++ s.last ∷ []) ≤ most = omega (arith, few d at, ap length shape, length-append s.leading (s.last ∷ []), length-append s.leading (s.last ∷ s.last ∷ [])) in
+    rw e vars
+
+few_variables : (P : Program) (o : Declared) {clause : Clause} (n : ℕ) (p : Prop) (most : ℕ) → IsDeclaredClause P o clause → o ≡ declared.Property n p → ((d : definition.Def) → slice_get P.defs n ≡ Some d → length d.params ≤ most) → length clause.vars ≤ most
+few_variables P _ {clause} n p most (IsDeclaredClause.of_property {d = m} {p = q} is) e few =
+    let same : m ≡ n = cc in
+    few_of_property P m most is (subst (λ k. (d : definition.Def) → slice_get P.defs k ≡ Some d → length d.params ≤ most) (sym same) few)
+few_variables P _ n p most (IsDeclaredClause.of_lemma at is) e few = cc
+
+few_constructors : (n : ℕ) (D : DataDef) → slice_get (bool_data ∷ []) n ≡ Some D → length D.cons < 2 ^ 32
+few_constructors zero D e = let same : bool_data ≡ D = cc in subst (λ (x : DataDef). length x.cons < 2 ^ 32) same (omega arith)
+few_constructors (suc n) D e = let none_there : None ≡ Some D = e in cc
+
+module _ (raw : RawProgram) (P : Program) (thin : IsThinProgram raw P) where
+  few_params : (params seen place : ℕ) (body : Term) → slice_get P.defs place ≡ Some (bool_def params seen body) → params ≤ 8 → (d : definition.Def) → slice_get P.defs place ≡ Some d → length d.params ≤ 8
+  few_params params seen place body at few d e =
+      let both : Some (bool_def params seen body) ≡ Some d = sym at ∙ e in
+      let same : bool_def params seen body ≡ d = cc in
+      subst (λ (x : definition.Def). length x.params ≤ 8) same (omega (arith, length-replicate params bool_type, few))
+
+  variables_of : (n : ℕ) (clause : Clause) → IsObligation P n clause → length clause.vars ≤ 8
+  variables_of n clause obligation =
+      let found = declared_at 0 raw.defs n obligation.declared (ap (λ (os : List Declared). slice_get os n) (sym thin.parts.are_declared) ∙ obligation.number) in
+      let placed = at_def thin.parts.are_defs found.place found.raw found.at in
+      let lawful = has_property found.raw found.index found.property placed.3.head found.has in
+      let at : slice_get P.defs found.place ≡ Some (bool_def (length found.raw.params) placed.1 placed.3.body) = placed.2 ∙ ap (λ (d : definition.Def). Some d) placed.3.is in
+      let same : obligation.declared ≡ declared.Property found.place found.property.prop = found.is ∙ ap (λ m. declared.Property m found.property.prop) (zero-add found.place) in
+      few_variables P obligation.declared found.place found.property.prop 8 obligation.says same (few_params (length found.raw.params) placed.1 found.place placed.3.body at lawful.2)
+
+  pub numbered_program : HasNumbers P
+  numbered_program = record {
+    variables = λ n clause obligation. omega (arith, variables_of n clause obligation);
+    constructors = λ n D e. few_constructors n D (ap (λ (ds : List DataDef). slice_get ds n) (sym thin.datatypes) ∙ e);
+  }
