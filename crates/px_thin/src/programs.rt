@@ -1,6 +1,6 @@
 //! The thin program of a written one.
 
-ghost use Rattle.std.specs.Prelude.{◌≡◌, [], ◌∷◌, ◌↔◌, List, IsTrue, IfOk, IfErr};
+ghost use Rattle.std.specs.Prelude.{◌≡◌, [], ◌∷◌, ◌↔◌, IsTrue, IfOk, IfErr};
 ghost use Rattle.px_terms.specs.declared.program.Program.{Program as AnyProgram};
 ghost use Rattle.px_terms.specs.Programs.{bool_data};
 ghost use Rattle.px_terms.specs.Plain.{IsPlainProgram};
