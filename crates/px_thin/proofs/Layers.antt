@@ -1,12 +1,11 @@
 -- The layers of thin terms, and where there is none.
-use Rattle.std.proofs.Common.{◌≡◌, ℕ, ◌<◌, List, [], ◌∷◌, length, get_or, refl, sym, ap, ◌∙◌, subst, arith, Result, Ok, Err, IfOk, IfErr}
+use Rattle.std.proofs.Common.{◌≡◌, ℕ, ◌<◌, List, [], ◌∷◌, length, get_or, refl, sym, ◌∙◌, subst, arith, Result, Ok, Err, IfOk, IfErr}
 use Rattle.std.specs.Result.{IsErrAnd}
 use Rattle.px_terms.specs.declared.term.Term.{Term}
 use Rattle.px_terms.specs.declared.term.Term.TheVariants as term
 use Rattle.px_terms.specs.declared.raw.RawTy.{RawTy}
 use Rattle.px_terms.specs.declared.raw.RawKind.{RawKind, out-RawKind}
 use Rattle.px_terms.specs.declared.raw.RawKind.TheVariants as kinds
-use Rattle.px_terms.specs.declared.raw.RawKind.TheOpen.{RawKind-F}
 use Rattle.px_terms.specs.declared.raw.RawTerm.{RawTerm}
 use Rattle.px_terms.specs.declared.raw.RawArm.{RawArm}
 use Rattle.px_thin.specs.declared.end.ThinEnd.{ThinEnd}

@@ -1,15 +1,15 @@
 -- A written program is at most one thin program.
-use Rattle.std.proofs.Common.{◌≡◌, ℕ, ◌+◌, List, [], ◌∷◌, length, refl, sym, ap, ◌∙◌, arith}
+use Rattle.std.proofs.Common.{◌≡◌, ℕ, List, [], ◌∷◌, length, refl, sym, ap, ◌∙◌, arith}
 use Rattle.px_terms.specs.declared.term.Term.{Term}
 use Rattle.px_terms.specs.declared.term.Term.TheVariants as term
 use Rattle.px_terms.specs.declared.program.Def as definition
 use Rattle.px_terms.specs.declared.program.Program.{Program}
-use Rattle.px_terms.specs.declared.raw.RawKind.{RawKind, out-RawKind}
+use Rattle.px_terms.specs.declared.raw.RawKind.{RawKind}
 use Rattle.px_terms.specs.declared.raw.RawKind.TheOpen.{RawKind-F}
 use Rattle.px_terms.specs.declared.raw.RawTerm.{RawTerm}
 use Rattle.px_terms.specs.declared.raw.RawArm.{RawArm}
 use Rattle.px_terms.specs.declared.raw.RawDef.{RawDef}
-use Rattle.px_thin.specs.Thin.{IsArmOf, IsThinLayer, variable, truth, choice, AreThinArms, false_first, true_first, IsThinDef, AreThinDefs, none, more, bool_def, IsThinProgram, OneThinProgram}
+use Rattle.px_thin.specs.Thin.{IsThinLayer, variable, truth, choice, AreThinArms, false_first, true_first, IsThinDef, AreThinDefs, none, more, bool_def, OneThinProgram}
 
 one_match : (on other a b c d t u : Term) → t ≡ term.Match on 0 [] (a ∷ b ∷ []) → u ≡ term.Match other 0 [] (c ∷ d ∷ []) → on ≡ other → (a ≡ c) × (b ≡ d) → t ≡ u
 one_match on other a b c d t u t_is u_is same arms = let p = arms.0 in let q = arms.1 in cc

@@ -1,10 +1,9 @@
 -- A thin program is plain, and what is numbered in it has a number below 2^32.
-use Rattle.std.proofs.Common.{◌≡◌, ℕ, zero, suc, ◌+◌, ◌<◌, ◌≤◌, ◌^◌, List, [], ◌∷◌, ◌++◌, length, Some, None, sym, refl, ap, ◌∙◌, subst, arith, length-append, zero-add, replicate}
+use Rattle.std.proofs.Common.{◌≡◌, ℕ, zero, suc, ◌<◌, ◌≤◌, ◌^◌, List, [], ◌∷◌, ◌++◌, length, Some, None, sym, refl, ap, ◌∙◌, subst, arith, length-append, zero-add, replicate}
 use Rattle.std.proofs.lemmas.List.{length-replicate}
 use Rattle.std.specs.List.{slice_get}
 use Rattle.px_terms.specs.declared.types.Prop.{Prop}
-use Rattle.px_terms.specs.declared.types.Ty.{Ty}
-use Rattle.px_terms.specs.declared.term.Term.{Term, out-Term}
+use Rattle.px_terms.specs.declared.term.Term.{Term}
 use Rattle.px_terms.specs.declared.term.Term.TheVariants as term
 use Rattle.px_terms.specs.declared.clause.Clause.{Clause}
 use Rattle.px_terms.specs.declared.program.DataDef.{DataDef}
@@ -19,10 +18,10 @@ use Rattle.px_terms.specs.declared.raw.RawArm.{RawArm}
 use Rattle.px_terms.specs.declared.raw.RawProgram.{RawProgram}
 use Rattle.px_terms.specs.Programs.{bool_type, bool_data}
 use Rattle.px_terms.specs.Plain.{IsPlainLayer, ArePlain, IsPlain, AreBools, IsPlainDef, IsPlainProgram}
-use Rattle.px_terms.specs.Clauses.{IsClause, comm_clause, idem_clause}
+use Rattle.px_terms.specs.Clauses.{IsClause}
 use Rattle.px_terms.specs.Obligations.{IsDeclaredClause, IsObligation}
 use Rattle.px_terms.specs.Numbered.{HasNumbers}
-use Rattle.px_thin.specs.Thin.{IsThinLayer, variable, truth, choice, AreThinArms, false_first, true_first, IsThinDef, bool_def, IsThinProgram}
+use Rattle.px_thin.specs.Thin.{IsThinLayer, variable, truth, choice, AreThinArms, false_first, true_first, bool_def, IsThinProgram}
 use Rattle.px_thin.proofs.Typed.{def_at, at_def, declared_at, has_property, typed_program}
 
 mutual

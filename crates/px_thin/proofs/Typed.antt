@@ -1,24 +1,21 @@
 -- A thin program is typed.
-use Rattle.std.proofs.Common.{◌≡◌, ◌≢◌, ℕ, zero, suc, ◌+◌, ◌-◌, ◌<◌, ◌≤◌, ◌⊎◌, List, [], ◌∷◌, ◌++◌, length, map, Option, Some, None, sym, refl, ap, ◌∙◌, subst, ⊎_elim, inl, inr, arith, add-zero, zero-add, All, replicate}
+use Rattle.std.proofs.Common.{◌≡◌, ℕ, zero, suc, ◌+◌, ◌-◌, ◌<◌, ◌≤◌, ◌⊎◌, List, [], ◌∷◌, ◌++◌, length, map, Some, sym, refl, ap, ◌∙◌, subst, ⊎_elim, inl, inr, arith, add-zero, zero-add, All, replicate}
 use Rattle.std.specs.List.{slice_get}
 use Rattle.std.specs.Option.{option_and_then}
 use Rattle.std.proofs.lemmas.List.{replicate-append-replicate}
 use Rattle.std.proofs.lemmas.List.Elements.{All-head, All-tail}
-use Rattle.px_terms.specs.declared.types.Ty.{Ty, out-Ty}
 use Rattle.px_terms.specs.declared.types.Ty.TheVariants as type
 use Rattle.px_terms.specs.declared.types.Prop.{Prop}
-use Rattle.px_terms.specs.declared.types.Prop.TheVariants as prop
-use Rattle.px_terms.specs.declared.term.Term.{Term, out-Term}
+use Rattle.px_terms.specs.declared.term.Term.{Term}
 use Rattle.px_terms.specs.declared.term.Term.TheVariants as term
 use Rattle.px_terms.specs.declared.sequent.Context.{Context}
 use Rattle.px_terms.specs.declared.clause.Clause.{Clause}
-use Rattle.px_terms.specs.declared.program.ConDef.{ConDef}
 use Rattle.px_terms.specs.declared.program.DataDef.{DataDef}
 use Rattle.px_terms.specs.declared.program.Def as definition
 use Rattle.px_terms.specs.declared.program.Declared.{Declared}
 use Rattle.px_terms.specs.declared.program.Declared.TheVariants as declared
 use Rattle.px_terms.specs.declared.program.Program.{Program}
-use Rattle.px_terms.specs.declared.raw.RawKind.{RawKind, out-RawKind}
+use Rattle.px_terms.specs.declared.raw.RawKind.{RawKind}
 use Rattle.px_terms.specs.declared.raw.RawKind.TheOpen.{RawKind-F}
 use Rattle.px_terms.specs.declared.raw.RawTerm.{RawTerm}
 use Rattle.px_terms.specs.declared.raw.RawArm.{RawArm}
@@ -27,7 +24,7 @@ use Rattle.px_terms.specs.declared.raw.RawDef.{RawDef}
 use Rattle.px_terms.specs.declared.raw.RawProgram.{RawProgram}
 use Rattle.px_terms.specs.Programs.{bool_type, bool_data, constructor_at}
 use Rattle.px_terms.specs.Typing.{IsTypeLayer, AreTypes, IsType, HasTypeLayer, HaveTypes, HaveTypesInArms, HasType, HasSignature, HasTypedBody, live}
-use Rattle.px_terms.specs.Clauses.{Shape, HasShape, IsClause, comm_clause, idem_clause}
+use Rattle.px_terms.specs.Clauses.{Shape, IsClause, comm_clause, idem_clause}
 use Rattle.px_terms.specs.Obligations.{IsDeclaredClause, IsTyped}
 use Rattle.px_thin.specs.Thin.{IsThinLayer, variable, truth, choice, AreThinArms, false_first, true_first, IsThinProp, IsThinHead, IsThinDef, AreThinDefs, none, more, bool_def, declared_from, IsThinProgram}
 use Rattle.px_thin.proofs.DefLists.{own}

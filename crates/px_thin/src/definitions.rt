@@ -1,6 +1,6 @@
 //! The definitions of a thin program, and the obligations that they declare.
 
-ghost use Rattle.std.specs.Prelude.{◌≡◌, ◌++◌, ◌∷◌, List, map, replicate, IfOk, IfErr, OnOk};
+ghost use Rattle.std.specs.Prelude.{◌≡◌, ◌++◌, List, map, replicate, IfOk, IfErr, OnOk};
 ghost use Rattle.px_terms.specs.declared.program.Def.{Def as AnyDef};
 ghost use Rattle.px_terms.specs.declared.program.Declared.{Declared as AnyDeclared};
 ghost use Rattle.px_terms.specs.declared.program.Declared.TheVariants as obligations;
@@ -16,7 +16,7 @@ use px_terms::{Declared, Def, RawDef, RawProp, Ty};
 use sqlite_items::Items;
 use std::alloc::Global;
 
-/// More than the numbers of definitions and of obligations: they are below 2^32.
+/// Definitions and obligations are fewer than this: their numbers are below 2^32.
 const NUMBERS: usize = 4_294_967_296;
 
 /// Definitions, and the obligations that they declare.

@@ -1,6 +1,6 @@
 //! The thin program of a written one.
 
-ghost use Rattle.std.specs.Prelude.{◌≡◌, [], ◌∷◌, ◌↔◌, List, IsTrue, IfOk, IfErr};
+ghost use Rattle.std.specs.Prelude.{◌≡◌, [], ◌∷◌, ◌↔◌, IsTrue, IfOk, IfErr};
 ghost use Rattle.px_terms.specs.declared.program.Program.{Program as AnyProgram};
 ghost use Rattle.px_terms.specs.Programs.{bool_data};
 ghost use Rattle.px_terms.specs.Plain.{IsPlainProgram};
@@ -22,10 +22,11 @@ struct Pieces {
 }
 
 /// The thin program of a written one, with its names. `NotThin` exactly where it is not thin: it declares something
-/// else than definitions, a definition has a parameter or a result that isn't `Bool`, a body has something else than
-/// parameters, `False`, `True` and matches with an arm for each of the two, a property is another than commutativity
-/// and idempotence, or a definition with a property has fewer than two parameters or more than a clause may have
-/// variables. It takes memory; its calls nest as deep as a body, and its time is linear in the program.
+/// else than definitions, a definition has type or function parameters, or a parameter or a result that isn't `Bool`,
+/// a body has something else than parameters, `False`, `True` and matches with an arm for each of the two, types are
+/// written after one of these, a property is another than commutativity and idempotence, a definition with a property
+/// has fewer than two parameters or more than a clause may have variables, or there are 2^32 definitions or
+/// obligations. It takes memory; its calls nest as deep as a body, and its time is linear in the program.
 pub fn thin_program(alloc: Global, raw: RawProgram) -> Result<Program, ThinEnd>
     ensures thin { IfOk result (λ program. IsThinProgram raw program) }
     ensures only { (P : AnyProgram) → IsThinProgram raw P → IsUnlessNoMemory P result }

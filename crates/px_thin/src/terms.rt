@@ -24,8 +24,8 @@ pub(crate) struct Arms {
     pub(crate) if_true: Term,
 }
 
-/// The term of a written one, in which the first `params` variables are parameters. `NotThin` where it is none
-/// of a thin definition. It takes memory; its calls nest as deep as the term.
+/// The term of a written one, in which the first `params` variables are parameters. `NotThin` where it is
+/// not thin. It takes memory; its calls nest as deep as the term.
 #[cycle(thin_term)]
 pub(crate) fn thin_term(alloc: Global, params: usize, raw: &RawTerm) -> Result<Term, ThinEnd>
     ensures is { IfOk result (λ t. IsThinTerm params raw.now t) }

@@ -1,4 +1,4 @@
-use Rattle.px_thin.proofs.Layers.{says_more, result_says_more, ok_more, passed_on, variable_is, truth_is, choice_is, no_first_arm, no_second_arm, no_other_arm, arms_in_order}
+use Rattle.px_thin.proofs.Layers.{result_says_more, ok_more, passed_on, variable_is, truth_is, choice_is, no_first_arm, no_second_arm, no_other_arm, arms_in_order}
 use Rattle.px_thin.proofs.terms.+thin_term.Goals as goal
 
 pub thin_term-returns-else-number-params-clause-is : goal.thin_term-returns-else-number-params-clause-is
