@@ -48,19 +48,31 @@ plain_program raw P thin = record {
   lemmas = thin.lemmas;
 }
 
--- the clause of a property has no more variables than the definition has parameters
-few_of_property : (P : Program) (n most : ℕ) {p : Prop} {clause : Clause} → IsClause P n p clause → ((d : definition.Def) → slice_get P.defs n ≡ Some d → length d.params ≤ most) → length clause.vars ≤ most
-few_of_property P n most (IsClause.comm {d = d} at s shape e) few =
-    let vars : length (s.leading ++ s.last ∷ s.last ∷ []) ≤ most = omega (arith, few d at, ap length shape) in
-    rw e vars
-few_of_property P n most (IsClause.idem {d = d} at s shape result e) few =
-    let vars : length (s.leading ++ s.last ∷ []) ≤ most = omega (arith, few d at, ap length shape, length-append s.leading (s.last ∷ []), length-append s.leading (s.last ∷ s.last ∷ [])) in
-    rw e vars
+-- so many variables at most, and no function variables
+record IsFew (most : ℕ) (clause : Clause) : Type 0 where
+  vars : length clause.vars ≤ most
+  funs : clause.funs ≡ []
 
-few_variables : (P : Program) (o : Declared) {clause : Clause} (n : ℕ) (p : Prop) (most : ℕ) → IsDeclaredClause P o clause → o ≡ declared.Property n p → ((d : definition.Def) → slice_get P.defs n ≡ Some d → length d.params ≤ most) → length clause.vars ≤ most
+-- so many parameters at most, and no function parameters
+record HasFew (most : ℕ) (d : definition.Def) : Type 0 where
+  params : length d.params ≤ most
+  funs : d.funs ≡ []
+
+-- the clause of a property has no more variables than the definition has parameters
+few_of_property : (P : Program) (n most : ℕ) {p : Prop} {clause : Clause} → IsClause P n p clause → ((d : definition.Def) → slice_get P.defs n ≡ Some d → HasFew most d) → IsFew most clause
+few_of_property P n most (IsClause.comm {d = d} at s shape e) few =
+    let has = few d at in
+    let vars : length (s.leading ++ s.last ∷ s.last ∷ []) ≤ most = omega (arith, has.params, ap length shape) in
+    rw e (record { vars = vars; funs = has.funs })
+few_of_property P n most (IsClause.idem {d = d} at s shape result e) few =
+    let has = few d at in
+    let vars : length (s.leading ++ s.last ∷ []) ≤ most = omega (arith, has.params, ap length shape, length-append s.leading (s.last ∷ []), length-append s.leading (s.last ∷ s.last ∷ [])) in
+    rw e (record { vars = vars; funs = has.funs })
+
+few_variables : (P : Program) (o : Declared) {clause : Clause} (n : ℕ) (p : Prop) (most : ℕ) → IsDeclaredClause P o clause → o ≡ declared.Property n p → ((d : definition.Def) → slice_get P.defs n ≡ Some d → HasFew most d) → IsFew most clause
 few_variables P _ {clause} n p most (IsDeclaredClause.of_property {d = m} {p = q} is) e few =
     let same : m ≡ n = cc in
-    few_of_property P m most is (subst (λ k. (d : definition.Def) → slice_get P.defs k ≡ Some d → length d.params ≤ most) (sym same) few)
+    few_of_property P m most is (subst (λ k. (d : definition.Def) → slice_get P.defs k ≡ Some d → HasFew most d) (sym same) few)
 few_variables P _ n p most (IsDeclaredClause.of_lemma at is) e few = cc
 
 few_constructors : (n : ℕ) (D : DataDef) → slice_get (bool_data ∷ []) n ≡ Some D → length D.cons < 2 ^ 32
@@ -68,13 +80,13 @@ few_constructors zero D e = let same : bool_data ≡ D = cc in subst (λ (x : Da
 few_constructors (suc n) D e = let none_there : None ≡ Some D = e in cc
 
 module _ (raw : RawProgram) (P : Program) (thin : IsThinProgram raw P) where
-  few_params : (params seen place : ℕ) (body : Term) → slice_get P.defs place ≡ Some (bool_def params seen body) → params ≤ 8 → (d : definition.Def) → slice_get P.defs place ≡ Some d → length d.params ≤ 8
+  few_params : (params seen place : ℕ) (body : Term) → slice_get P.defs place ≡ Some (bool_def params seen body) → params ≤ 8 → (d : definition.Def) → slice_get P.defs place ≡ Some d → HasFew 8 d
   few_params params seen place body at few d e =
       let both : Some (bool_def params seen body) ≡ Some d = sym at ∙ e in
       let same : bool_def params seen body ≡ d = cc in
-      subst (λ (x : definition.Def). length x.params ≤ 8) same (omega (arith, length-replicate params bool_type, few))
+      subst (λ (x : definition.Def). HasFew 8 x) same (record { params = omega (arith, length-replicate params bool_type, few); funs = refl })
 
-  variables_of : (n : ℕ) (clause : Clause) → IsObligation P n clause → length clause.vars ≤ 8
+  variables_of : (n : ℕ) (clause : Clause) → IsObligation P n clause → IsFew 8 clause
   variables_of n clause obligation =
       let found = declared_at 0 raw.defs n obligation.declared (ap (λ (os : List Declared). slice_get os n) (sym thin.parts.are_declared) ∙ obligation.number) in
       let placed = at_def thin.parts.are_defs found.place found.raw found.at in
@@ -85,6 +97,7 @@ module _ (raw : RawProgram) (P : Program) (thin : IsThinProgram raw P) where
 
   pub numbered_program : HasNumbers P
   numbered_program = record {
-    variables = λ n clause obligation. omega (arith, variables_of n clause obligation);
+    obligations = thin.parts.few_declared;
+    clauses = λ n clause obligation. let few = variables_of n clause obligation in record { vars = omega (arith, few.vars); funs = omega (arith, ap length few.funs) };
     constructors = λ n D e. few_constructors n D (ap (λ (ds : List DataDef). slice_get ds n) (sym thin.datatypes) ∙ e);
   }

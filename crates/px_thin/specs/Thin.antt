@@ -19,6 +19,7 @@ use Rattle.px_terms.specs.declared.raw.RawDef.{RawDef}
 use Rattle.px_terms.specs.declared.raw.RawProgram.{RawProgram}
 use Rattle.px_terms.specs.declared.limits.TheConstants.{CLAUSE_VARIABLES}
 use Rattle.px_terms.specs.Programs.{bool_type, bool_data}
+use Rattle.px_terms.specs.Plain.{IsPlainProgram}
 
 -- the written type is `Bool`, which is datatype 0, and nothing is written after it
 pub record IsBool (raw : RawTy) : Type 0 where
@@ -110,3 +111,7 @@ pub record IsThinProgram (raw : RawProgram) (P : Program) : Type 0 where
 -- a written program is at most one thin program
 abbrev pub OneThinProgram : Type 0
 OneThinProgram = (raw : RawProgram) (P Q : Program) → IsThinProgram raw P → IsThinProgram raw Q → P ≡ Q
+
+-- a thin program is one over truth values
+abbrev pub ThinIsPlain : Type 0
+ThinIsPlain = (raw : RawProgram) (P : Program) → IsThinProgram raw P → IsPlainProgram P

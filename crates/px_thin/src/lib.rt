@@ -13,5 +13,5 @@ mod terms;
 mod tests;
 
 pub use end::ThinEnd;
-pub use laws::one_thin_program;
+pub use laws::{one_thin_program, thin_is_plain};
 pub use programs::thin_program;
