@@ -41,13 +41,13 @@ read_whole text files name bytes (Err (Source fault)) has calm reads = absurd re
 read_whole text files name bytes (Err Rejected) has calm reads = absurd reads
 read_whole text files name bytes (Err WriteFault) has calm reads = absurd reads
 
-no_memory : (end : End) (bytes : List ℕ) → ((Err end ≡ Ok bytes) ⊎ (Err end ≡ Err NoMemory)) → end ≡ NoMemory
-no_memory end bytes (inl is) = cc
-no_memory end bytes (inr is) = cc
+no_memory : (result : Result (List ℕ) End) (end : End) (bytes : List ℕ) → result ≡ Err end → (result ≡ Ok bytes) ⊎ (result ≡ Err NoMemory) → end ≡ NoMemory
+no_memory result end bytes ends (inl is) = cc
+no_memory result end bytes ends (inr is) = cc
 
-same_bytes : (read bytes : List ℕ) → ((Ok {E = End} read ≡ Ok bytes) ⊎ (Ok {E = End} read ≡ Err NoMemory)) → read ≡ bytes
-same_bytes read bytes (inl is) = cc
-same_bytes read bytes (inr is) = cc
+same_bytes : (result : Result (List ℕ) End) (read bytes : List ℕ) → result ≡ Ok read → (result ≡ Ok bytes) ⊎ (result ≡ Err NoMemory) → read ≡ bytes
+same_bytes result read bytes ends (inl is) = cc
+same_bytes result read bytes ends (inr is) = cc
 
 source_ends : (bytes : List ℕ) (end : End) → Sources bytes (Err end) → IsDone end
 source_ends bytes (Source Unbuilt) h = inr (inr refl)
@@ -81,12 +81,12 @@ prints_ends line out (TooLong text) printed calm h = absurd h
 
 module _ (files : FilesSeen) (out : SinkSeen) (calm : ¬ Rose files.before files.after) (calm_out : ¬ Rose out.before out.after) where
   replay_done : (file derivation text steps : List ℕ) (end : End) (printed : List ℕ) → HasText files which.Program file text → HasText files which.Derivation derivation steps → ((program : Program) → IsThinSource text program → IsDerivationText program steps) → LineEnds files out (Replay file derivation) end printed → IsDone end
-  replay_done file derivation text steps end printed has_text has_steps derives (inl (reads, _)) = inr (inl (no_memory end text (read_whole which.Program files file text (Err end) has_text calm reads)))
+  replay_done file derivation text steps end printed has_text has_steps derives (inl (reads, _)) = inr (inl (no_memory (Err end) end text refl (read_whole which.Program files file text (Err end) has_text calm reads)))
   replay_done file derivation text steps end printed has_text has_steps derives (inr (read, _, inl (source, _))) = source_ends read end source
-  replay_done file derivation text steps end printed has_text has_steps derives (inr (read, _, inr (program, _, inl (reads, _)))) = inr (inl (no_memory end steps (read_whole which.Derivation files derivation steps (Err end) has_steps calm reads)))
+  replay_done file derivation text steps end printed has_text has_steps derives (inr (read, _, inr (program, _, inl (reads, _)))) = inr (inl (no_memory (Err end) end steps refl (read_whole which.Derivation files derivation steps (Err end) has_steps calm reads)))
   replay_done file derivation text steps end printed has_text has_steps derives (inr (read, reads, inr (program, source, inr (rows, rows_read, inl (accepts, _))))) =
-      let text_is : read ≡ text = same_bytes read text (read_whole which.Program files file text (Ok read) has_text calm reads) in
-      let steps_is : rows ≡ steps = same_bytes rows steps (read_whole which.Derivation files derivation steps (Ok rows) has_steps calm rows_read) in
+      let text_is : read ≡ text = same_bytes (Ok read) read text refl (read_whole which.Program files file text (Ok read) has_text calm reads) in
+      let steps_is : rows ≡ steps = same_bytes (Ok rows) rows steps refl (read_whole which.Derivation files derivation steps (Ok rows) has_steps calm rows_read) in
       accepts_ends program rows end (subst (IsDerivationText program) (sym steps_is) (derives program (subst (λ (bytes : List ℕ). IsThinSource bytes program) text_is source))) accepts
   replay_done file derivation text steps end printed has_text has_steps derives (inr (read, _, inr (program, _, inr (rows, _, inr (n, _, prints))))) = prints_ends (accepted_line n) out end printed calm_out prints
 
@@ -111,7 +111,7 @@ allowed_done words files out err (Some kept) end line calm is can ends =
 
 told_stays : (told : End) (err : SinkSeen) (end : End) → ¬ Rose err.before err.after → Tells told err end → end ≡ told
 told_stays told err end calm (inl tells) = tells.0
-told_stays told err end calm (inr tells) = absurd (calm tells.2.0)
+told_stays told err end calm (inr tells) = absurd (calm tells.2)
 
 -- a plain line whose work can be done ends Done where no count rose, but for want of memory and a program that is not read
 pub answer_done : (words : List (List ℕ)) (files : FilesSeen) (out err : SinkSeen) (outcome : Outcome) → IsAnswer words files out err outcome → (line : CommandLine) → line_of words ≡ Some line → CanBeDone files line → NoneRose files out err → IsDone outcome.end

@@ -39,7 +39,8 @@ const LINES: [&[u8]; 24] = [
 ];
 
 /// The derivation of that program.
-const WHOLE: &[u8] = b"goal 0\ncase 0\ncase 1\nsame 0\nstep a0l / unfold\nstep a0l / select\nstep a0r / unfold\nstep a0r / select\n\
+const WHOLE: &[u8] =
+    b"goal 0\ncase 0\ncase 1\nsame 0\nstep a0l / unfold\nstep a0l / select\nstep a0r / unfold\nstep a0r / select\n\
 same 0\ncase 1\nstep a0l / unfold\nstep a0l / select\nstep a0r / unfold\nstep a0r / select\nsame 0\nsame 0\n\
 goal 1\ncase 0\nstep a0l / unfold\nstep a0l / select\nsame 0\nstep a0l / unfold\nstep a0l / select\nsame 0\n";
 
@@ -190,13 +191,29 @@ fn another_spelling_is_rejected(rt: HostRuntime) -> Result<(), Fail> {
     for (place, line) in LINES.iter().enumerate() {
         let zero = if line.contains(&b'0') { b'0' } else { b'1' };
         let leading_zero = spelled(alloc, line, zero, b"0")?;
-        expect_rejected(&rt, alloc, &text_with(alloc, place, leading_zero.as_slice())?)?;
+        expect_rejected(
+            &rt,
+            alloc,
+            &text_with(alloc, place, leading_zero.as_slice())?,
+        )?;
         let doubled_space = spelled(alloc, line, b' ', b" ")?;
-        expect_rejected(&rt, alloc, &text_with(alloc, place, doubled_space.as_slice())?)?;
+        expect_rejected(
+            &rt,
+            alloc,
+            &text_with(alloc, place, doubled_space.as_slice())?,
+        )?;
         let trailing_space = followed(alloc, line, b" ")?;
-        expect_rejected(&rt, alloc, &text_with(alloc, place, trailing_space.as_slice())?)?;
+        expect_rejected(
+            &rt,
+            alloc,
+            &text_with(alloc, place, trailing_space.as_slice())?,
+        )?;
         let carriage_return = followed(alloc, line, b"\r")?;
-        expect_rejected(&rt, alloc, &text_with(alloc, place, carriage_return.as_slice())?)?;
+        expect_rejected(
+            &rt,
+            alloc,
+            &text_with(alloc, place, carriage_return.as_slice())?,
+        )?;
     }
     Ok(())
 }
