@@ -3,6 +3,7 @@
 #![tactic(auto)]
 
 mod surface;
+mod types;
 
 pub use surface::{
     Item, Name, SArm, SClaim, SCon, SData, SDef, SEquation, SExpr, SExprKind, SFnType, SFun, SLemma,
