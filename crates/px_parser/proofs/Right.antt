@@ -6,7 +6,7 @@ use Rattle.px_lexer.specs.declared.token.Mark.TheVariants as mark
 use Rattle.px_lexer.specs.declared.token.TokenKind.TheVariants as kinds
 use Rattle.px_parser.specs.Words.{Word}
 use Rattle.px_parser.specs.Phrases.{Phrase, IsDone, done, impossible, IsSequence, Either, one, other, Each, none, more, IsWord}
-use Rattle.px_parser.specs.Readers.{Reader, onward, pure, fail, bind, choice, found, word_at, each_of, each_at, fronts}
+use Rattle.px_parser.specs.Readers.{Reader, onward, pure, fail, bind, choice, found, word_at, each_of, each_at}
 
 -- both are empty, or begin with one word
 abbrev pub SameFirst : List Word → List Word → Type 0

@@ -1,4 +1,9 @@
 pub mod Words
+pub mod Kinds
 pub mod Phrases
+pub mod Grammar
+pub mod Faults
 pub mod Readers
-pub mod Try
+pub mod Reading
+pub mod Readable
+pub mod Gives

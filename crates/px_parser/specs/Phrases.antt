@@ -4,10 +4,11 @@ use Rattle.px_terms.specs.declared.types.Prop.{Prop}
 use Rattle.px_terms.specs.declared.raw.RawProp.{RawProp}
 use Rattle.px_lexer.specs.declared.token.Key.{Key}
 use Rattle.px_lexer.specs.declared.token.Mark.{Mark}
-use Rattle.px_lexer.specs.declared.token.Mark.TheVariants as mark
 use Rattle.px_lexer.specs.declared.token.TokenKind.TheVariants as kinds
 use Rattle.px_parser.specs.Words.{Word}
 use Rattle.px_parser.specs.declared.surface.Name.{Name}
+use Rattle.px_parser.specs.declared.surface.SExpr.{SExpr}
+use Rattle.px_parser.specs.declared.surface.SExprKind.TheVariants as expr_kinds
 
 -- which words are written for which value
 abbrev pub Phrase : Type 0 → Type 1
@@ -59,37 +60,65 @@ pub record IsWord {T : Type 0} (Is : Word → T → Type 0) (words : List Word) 
   pub whole : words ≡ word ∷ []
 
 -- the word is this mark
-pub record IsMark (m : Mark) (word : Word) (at : ℕ) : Type 0 where
+pub record IsMark (m : Mark) (word : Word) (nothing : Unit {0}) : Type 0 where
   pub kind : word.kind ≡ kinds.Mark m
-  pub placed : at ≡ word.at
 
--- the word is reserved, and this one
+-- the word is this reserved word, and stands at this place
 pub record IsKey (k : Key) (word : Word) (at : ℕ) : Type 0 where
   pub kind : word.kind ≡ kinds.Key k
-  pub placed : at ≡ word.at
+  pub same : at ≡ word.at
 
--- the word is a name with a small letter
+-- the word is this name, which begins with a small letter
 pub record IsLower (word : Word) (name : Name) : Type 0 where
   pub kind : word.kind ≡ kinds.Lower
   pub same : name ≡ record { at = word.at; text = word.text }
 
--- the word is a name with a capital letter
+-- the word is this name, which begins with a capital letter
 pub record IsUpper (word : Word) (name : Name) : Type 0 where
   pub kind : word.kind ≡ kinds.Upper
   pub same : name ≡ record { at = word.at; text = word.text }
 
--- the word is a property's
+-- the word is this property's
 pub record IsProperty (word : Word) (prop : RawProp) : Type 0 where
   pub kind : word.kind ≡ kinds.Property prop.prop
-  pub placed : prop.at ≡ word.at
+  pub same : prop.at ≡ word.at
 
--- the word is a number
-pub record IsNumber (word : Word) (number : ℕ) : Type 0 where
+-- the word is this number
+pub record IsNumber (word : Word) (literal : SExpr) : Type 0 where
   pub kind : word.kind ≡ kinds.Number
-  pub same : number ≡ word.number
+  pub same : literal ≡ record { at = word.at; kind = expr_kinds.Number word.number }
 
-abbrev pub mark_word : Mark → Phrase ℕ
-mark_word m = IsWord (IsMark m)
+abbrev pub mark : Mark → Phrase (Unit {0})
+mark m = IsWord (IsMark m)
+
+abbrev pub key : Key → Phrase ℕ
+key k = IsWord (IsKey k)
+
+abbrev pub lower : Phrase Name
+lower = IsWord IsLower
 
 abbrev pub upper : Phrase Name
 upper = IsWord IsUpper
+
+abbrev pub property : Phrase RawProp
+property = IsWord IsProperty
+
+abbrev pub number : Phrase SExpr
+number = IsWord IsNumber
+
+-- the phrase once or more often, with this mark between
+unfoldable pub list : {T : Type 0} → Mark → Phrase T → Phrase (List T)
+list separator A = do
+  first ← A
+  others ← Each (do
+    _ ← mark separator
+    A)
+  done (first ∷ others)
+
+-- the phrase between two marks
+unfoldable pub between : {T : Type 0} → Mark → Phrase T → Mark → Phrase T
+between opening A closing = do
+  _ ← mark opening
+  value ← A
+  _ ← mark closing
+  done value

@@ -1,7 +1,6 @@
 -- Readers: what the functions of this crate find at the front of the words, and how readers are joined. Each is proved
 -- to read its phrase.
 use Rattle.std.specs.Prelude.{ℕ, zero, suc, Bool, true, false, cond, List, [], ◌∷◌, length, Option, Some, None, Result, Ok, Err}
-use Rattle.px_lexer.specs.declared.token.TokenKind.{TokenKind}
 use Rattle.px_parser.specs.Words.{Word}
 
 -- a value and the words after it, or how many words are left at the first word that fits nothing
@@ -51,8 +50,3 @@ each_of test item (suc most) words = cond (test words) (onward (item words) (λ 
 -- the items that come while the test holds
 unfoldable pub each_at : {T : Type 0} → (List Word → Bool) → Reader T → Reader (List T)
 each_at test item words = each_of test item (length words) words
-
--- there is a first word, and its kind passes the test
-abbrev pub fronts : (TokenKind → Bool) → List Word → Bool
-fronts test [] = false
-fronts test (word ∷ rest) = test word.kind

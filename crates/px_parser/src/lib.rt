@@ -2,9 +2,11 @@
 //! The grammar stands in `specs/`: a relation by cases between tokens and trees, one case a production.
 #![tactic(auto)]
 
+mod program;
+mod rest;
 mod surface;
-mod types;
 
+pub use program::ParseEnd;
 pub use surface::{
     Item, Name, SArm, SClaim, SCon, SData, SDef, SEquation, SExpr, SExprKind, SFnType, SFun, SLemma,
     SParam, SParamKind, SReplica, SType, Surface,
