@@ -2,8 +2,8 @@
 use Rattle.std.specs.Prelude.{◌≡◌, ℕ, List, Result, Ok, Err}
 use Rattle.px_parser.specs.Words.{Word, words_of}
 use Rattle.px_parser.specs.declared.rest.Rest.{Rest}
-use Rattle.px_parser.specs.declared.rest.ReadEnd.{ReadEnd}
-use Rattle.px_parser.specs.declared.rest.ReadEnd.TheVariants.{Fault, NoMemory}
+use Rattle.px_parser.specs.declared.read_end.ReadEnd.{ReadEnd}
+use Rattle.px_parser.specs.declared.read_end.ReadEnd.TheVariants.{Fault, NoMemory}
 
 -- the words that are left
 abbrev pub words : Rest → List Word

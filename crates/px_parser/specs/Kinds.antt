@@ -53,6 +53,12 @@ abbrev pub is_upper : TokenKind → Bool
 is_upper kinds.Upper = true
 is_upper _ = false
 
+-- the token is a name
+abbrev pub is_name : TokenKind → Bool
+is_name kinds.Lower = true
+is_name kinds.Upper = true
+is_name _ = false
+
 -- the token is a number
 abbrev pub is_number : TokenKind → Bool
 is_number kinds.Number = true

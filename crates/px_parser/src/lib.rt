@@ -2,9 +2,12 @@
 //! The grammar stands in `specs/`: a relation by cases between tokens and trees, one case a production.
 #![tactic(auto)]
 
+mod names;
 mod program;
+mod read_end;
 mod rest;
 mod surface;
+mod types;
 
 pub use program::ParseEnd;
 pub use surface::{

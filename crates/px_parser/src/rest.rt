@@ -3,31 +3,12 @@ ghost use Rattle.std.specs.Prelude.{IsTrue};
 ghost use Rattle.std.specs.List.{list_all};
 ghost use Rattle.px_parser.specs.Readable.{is_readable};
 
+use crate::names::name_of;
+use crate::read_end::ReadEnd;
 use crate::surface::Name;
 use px_lexer::{Key, Mark, Token, TokenKind};
-use px_terms::{RawProp, Text};
-use std::alloc::{AllocError, AllocFailed, Global};
-use std::str;
-
-/// Why nothing was read.
-#[derive(Clone, Copy, Debug, PartialEq, Eq)]
-pub(crate) enum ReadEnd {
-    /// So many tokens are left at the first one that fits nothing.
-    Fault { left: usize },
-    /// No memory was left.
-    NoMemory,
-}
-
-impl From<AllocError> for ReadEnd {
-    ghost use Rattle.std.specs.Prelude.{◌≡◌};
-    ghost use Rattle.px_parser.specs.declared.rest.ReadEnd.TheVariants.{NoMemory};
-
-    ghost from_gives = { λ _ end. end ≡ NoMemory };
-
-    fn from(_error: AllocError) -> ReadEnd {
-        ReadEnd::NoMemory
-    }
-}
+use px_terms::RawProp;
+use std::alloc::Global;
 
 /// The tokens that are left of a text.
 #[derive(Clone, Copy)]
@@ -38,7 +19,7 @@ pub(crate) struct Rest<'t> {
 }
 
 impl<'t> Rest<'t> {
-    ghost use Rattle.std.specs.Prelude.{◌≡◌, [], ◌∷◌, length, map, IfSome, IfNone, MatchOption, Ok, Err};
+    ghost use Rattle.std.specs.Prelude.{◌≡◌, [], ◌∷◌, length, map, IfSome, IfNone, MatchOption, IfOk, IfErr, Ok, Err, true, false};
     ghost use Rattle.px_parser.specs.Words.{word_of, words_of};
     ghost use Rattle.px_parser.specs.Gives.{words, Gives, Passes};
     ghost use Rattle.px_parser.specs.Reading.{mark_at, key_at, lower_at, upper_at, property_at};
@@ -55,7 +36,8 @@ impl<'t> Rest<'t> {
 
     /// The first token, and those after it.
     fn split(self) -> Option<(Token, Rest<'t>)>
-        ensures { MatchOption result (words self.entry ≡ []) (λ found. words self.entry ≡ word_of self.entry.text.now found.0 ∷ words found.1) }
+        ensures words { MatchOption result (words self.entry ≡ []) (λ found. words self.entry ≡ word_of self.entry.text.now found.0 ∷ words found.1) }
+        ensures readable { IfSome result (λ found. IsTrue (is_readable self.entry.text.now found.0)) }
     {
         match self.tokens {
             [] => None,
@@ -67,5 +49,88 @@ impl<'t> Rest<'t> {
                 },
             )),
         }
+    }
+
+    /// The tokens after this mark, where it is the first.
+    pub(crate) fn past(self, mark: Mark) -> Option<Rest<'t>>
+        ensures none { IfNone result (fronts (is_mark mark) (words self.entry) ≡ false) }
+        ensures begins { IfSome result (λ rest. fronts (is_mark mark) (words self.entry) ≡ true) }
+        ensures rest { IfSome result (λ rest. mark_at mark (words self.entry) ≡ Ok (tt, words rest)) }
+    {
+        let (first, rest) = self.split()?;
+        if first.kind != TokenKind::Mark(mark) {
+            return None;
+        }
+        Some(rest)
+    }
+
+    /// The tokens after this mark. A fault where the first is another.
+    pub(crate) fn mark(self, mark: Mark) -> Result<Rest<'t>, ReadEnd>
+        ensures { Passes result (mark_at mark (words self.entry)) }
+    {
+        match self.past(mark) {
+            Some(rest) => Ok(rest),
+            None => Err(self.fault()),
+        }
+    }
+
+    /// The place of this reserved word, and the tokens after it. A fault where the first is another.
+    pub(crate) fn key(self, key: Key) -> Result<(u32, Rest<'t>), ReadEnd>
+        ensures { Gives result (key_at key (words self.entry)) }
+    {
+        let Some((first, rest)) = self.split() else {
+            return Err(self.fault());
+        };
+        if first.kind != TokenKind::Key(key) {
+            return Err(self.fault());
+        }
+        Ok((first.start, rest))
+    }
+
+    /// The property at the front, and the tokens after it. A fault where the first is another.
+    pub(crate) fn property(self) -> Result<(RawProp, Rest<'t>), ReadEnd>
+        ensures { Gives result (property_at (words self.entry)) }
+    {
+        let Some((first, rest)) = self.split() else {
+            return Err(self.fault());
+        };
+        let TokenKind::Property(prop) = first.kind else {
+            return Err(self.fault());
+        };
+        Ok((
+            RawProp {
+                at: first.start,
+                prop,
+            },
+            rest,
+        ))
+    }
+
+    /// The name that begins with a small letter at the front, and the tokens after it. A fault where there is none. It
+    /// takes memory.
+    pub(crate) fn lower(self, alloc: Global) -> Result<(Name, Rest<'t>), ReadEnd>
+        ensures { Gives result (lower_at (words self.entry)) }
+    {
+        let Some((first, rest)) = self.split() else {
+            return Err(self.fault());
+        };
+        if first.kind != TokenKind::Lower {
+            return Err(self.fault());
+        }
+        Ok((name_of(alloc, self.text, first)?, rest))
+    }
+
+    /// The name that begins with a capital letter at the front, and the tokens after it. A fault where there is none. It
+    /// takes memory.
+    pub(crate) fn upper(self, alloc: Global) -> Result<(Name, Rest<'t>), ReadEnd>
+        ensures { Gives result (upper_at (words self.entry)) }
+    {
+        let Some((first, rest)) = self.split() else {
+            return Err(self.fault());
+        };
+        if first.kind != TokenKind::Upper {
+            return Err(self.fault());
+        }
+        Ok((name_of(alloc, self.text, first)?, rest))
     }
 }
