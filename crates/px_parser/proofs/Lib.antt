@@ -4,3 +4,6 @@ pub mod Fronts
 pub mod Marks
 pub mod ReadableFacts
 pub mod Loops
+pub mod TypeSteps
+pub mod Tokens
+pub mod Joins

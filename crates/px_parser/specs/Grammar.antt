@@ -84,15 +84,15 @@ fn_type = do
   props ← with_properties
   done (record { at = at; params = params; result = result; props = props })
 
--- `type | fntype`
+-- `fntype | type`
 unfoldable pub param_kind : Phrase SParamKind
 param_kind = Either (do
-    value ← type NESTING
-    done (param_kinds.Value value)) (do
     function ← fn_type
-    done (param_kinds.Function function))
+    done (param_kinds.Function function)) (do
+    value ← type NESTING
+    done (param_kinds.Value value))
 
--- `Lower ":" ( type | fntype )`
+-- `Lower ":" ( fntype | type )`
 unfoldable pub param : Phrase SParam
 param = do
   name ← lower

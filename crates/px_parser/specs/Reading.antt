@@ -125,3 +125,229 @@ types_at room = list_at Comma (type_at room)
 
 unfoldable pub type_arguments_at : ℕ → Reader (List SType)
 type_arguments_at room = type_arguments_with room (type_at room)
+
+unfoldable pub names_at : Reader Name → Reader (List Name)
+names_at name = list_at Comma name
+
+unfoldable pub type_parameters_at : Reader (List Name)
+type_parameters_at = opened_at Less (names_at upper_at) Greater
+
+unfoldable pub con_at : Reader SCon
+con_at = do
+  name ← upper_at
+  fields ← opened_at ParenL (types_at NESTING) ParenR
+  pure (record { name = name; fields = fields })
+
+unfoldable pub cons_at : Reader (List SCon)
+cons_at = list_at Comma con_at
+
+unfoldable pub data_at : Reader SData
+data_at = do
+  at ← key_at KData
+  name ← upper_at
+  tparams ← type_parameters_at
+  cons ← between_at BraceL cons_at BraceR
+  pure (record { at = at; name = name; tparams = tparams; cons = cons })
+
+unfoldable pub properties_at : Reader (List RawProp)
+properties_at = list_at Comma property_at
+
+-- the `with` of a definition
+unfoldable pub with_at : Reader (List RawProp)
+with_at = choice (fronts (is_key KWith)) (do
+  _ ← key_at KWith
+  properties_at) (pure [])
+
+-- a comma stands first, and then a property
+unfoldable pub comma_property : List Word → Bool
+comma_property [] = false
+comma_property (word ∷ rest) = is_mark Comma word.kind && fronts is_property rest
+
+-- the properties of a parameter: a comma before anything but a property comes after the parameter
+unfoldable pub param_properties_at : Reader (List RawProp)
+param_properties_at = list_while comma_property Comma property_at
+
+-- the `with` of a parameter
+unfoldable pub param_with_at : Reader (List RawProp)
+param_with_at = choice (fronts (is_key KWith)) (do
+  _ ← key_at KWith
+  param_properties_at) (pure [])
+
+unfoldable pub fn_type_at : Reader SFnType
+fn_type_at = do
+  at ← key_at KFn
+  params ← between_at ParenL (types_at (NESTING - 1)) ParenR
+  _ ← mark_at Arrow
+  result ← type_at (NESTING - 1)
+  props ← param_with_at
+  pure (record { at = at; params = params; result = result; props = props })
+
+unfoldable pub param_kind_at : Reader SParamKind
+param_kind_at = choice (fronts (is_key KFn)) (do
+    function ← fn_type_at
+    pure (param_kinds.Function function)) (do
+    value ← type_at NESTING
+    pure (param_kinds.Value value))
+
+unfoldable pub param_at : Reader SParam
+param_at = do
+  name ← lower_at
+  _ ← mark_at Colon
+  kind ← param_kind_at
+  pure (record { name = name; kind = kind })
+
+-- the items up to the mark that closes them, none where it stands first
+unfoldable pub up_to : {T : Type 0} → Mark → Reader (List T) → Reader (List T)
+up_to closing items = choice (fronts (is_mark closing)) (pure []) items
+
+unfoldable pub param_list_at : Reader (List SParam)
+param_list_at = list_at Comma param_at
+
+unfoldable pub params_at : Reader (List SParam)
+params_at = between_at ParenL (up_to ParenR param_list_at) ParenR
+
+-- the readers of expressions, around these types and expressions
+unfoldable pub upper_expr_with : Reader (List SType) → Reader SExpr → Reader SExpr
+upper_expr_with types inner = do
+  name ← upper_at
+  types ← types
+  fields ← opened_at ParenL (list_at Comma inner) ParenR
+  pure (record { at = name.at; kind = expr_kinds.Upper name types fields })
+
+unfoldable pub arguments_with : Reader SExpr → Reader (Option (List SExpr))
+arguments_with inner = choice (fronts (is_mark ParenL)) (do
+  args ← between_at ParenL (up_to ParenR (list_at Comma inner)) ParenR
+  pure (Some args)) (pure None)
+
+unfoldable pub lower_expr_with : Reader (List SType) → Reader SExpr → Reader SExpr
+lower_expr_with types inner = do
+  name ← lower_at
+  types ← types
+  args ← arguments_with inner
+  pure (record { at = name.at; kind = expr_kinds.Lower name types args })
+
+unfoldable pub arm_with : Reader SExpr → Reader SArm
+arm_with inner = do
+  name ← upper_at
+  vars ← opened_at ParenL (names_at lower_at) ParenR
+  _ ← mark_at FatArrow
+  body ← inner
+  pure (record { name = name; vars = vars; body = body })
+
+unfoldable pub match_with : Reader SExpr → Reader SExpr
+match_with inner = do
+  at ← key_at KMatch
+  on ← inner
+  arms ← between_at BraceL (list_at Comma (arm_with inner)) BraceR
+  pure (record { at = at; kind = expr_kinds.Match on arms })
+
+-- one of the four, by the first word
+unfoldable pub expr_with : ℕ → Reader (List SType) → Reader SExpr → Reader SExpr
+expr_with room types inner = choice (fronts is_number) number_at (choice (fronts is_upper) (upper_expr_with types inner) (choice (fronts is_lower) (lower_expr_with types inner) (inside room (match_with inner))))
+
+unfoldable pub expr_at : ℕ → Reader SExpr
+expr_at zero = fail
+expr_at (suc room) = expr_with room (type_arguments_at room) (expr_at room)
+
+unfoldable pub exprs_at : ℕ → Reader (List SExpr)
+exprs_at room = list_at Comma (expr_at room)
+
+unfoldable pub upper_expr_at : ℕ → Reader SExpr
+upper_expr_at room = upper_expr_with (type_arguments_at room) (expr_at room)
+
+unfoldable pub lower_expr_at : ℕ → Reader SExpr
+lower_expr_at room = lower_expr_with (type_arguments_at room) (expr_at room)
+
+unfoldable pub arm_at : ℕ → Reader SArm
+arm_at room = arm_with (expr_at room)
+
+unfoldable pub arms_at : ℕ → Reader (List SArm)
+arms_at room = list_at Comma (arm_at room)
+
+unfoldable pub match_at : ℕ → Reader SExpr
+match_at room = inside room (match_with (expr_at room))
+
+unfoldable pub definition_at : Reader SDef
+definition_at = do
+  at ← key_at KDef
+  name ← lower_at
+  tparams ← type_parameters_at
+  params ← params_at
+  _ ← mark_at Colon
+  result ← type_at NESTING
+  props ← with_at
+  body ← between_at BraceL (expr_at NESTING) BraceR
+  pure (record { at = at; name = name; tparams = tparams; params = params; result = result; props = props; body = body })
+
+unfoldable pub claim_at : Reader SClaim
+claim_at = do
+  at ← key_at KClaim
+  name ← lower_at
+  _ ← mark_at Colon
+  props ← properties_at
+  pure (record { at = at; name = name; props = props })
+
+unfoldable pub equation_at : Reader SEquation
+equation_at = do
+  left ← expr_at NESTING
+  _ ← mark_at Equal
+  right ← expr_at NESTING
+  pure (record { left = left; right = right })
+
+unfoldable pub equations_at : Reader (List SEquation)
+equations_at = list_at FatArrow equation_at
+
+unfoldable pub lemma_at : Reader SLemma
+lemma_at = do
+  at ← key_at KLemma
+  name ← lower_at
+  tparams ← type_parameters_at
+  params ← params_at
+  _ ← mark_at Colon
+  equations ← equations_at
+  pure (record { at = at; name = name; tparams = tparams; params = params; equations = equations })
+
+unfoldable pub function_at : Reader SFun
+function_at = do
+  name ← lower_at
+  args ← type_arguments_at NESTING
+  pure (record { name = name; args = args })
+
+unfoldable pub functions_at : Reader (List SFun)
+functions_at = list_at Comma function_at
+
+unfoldable pub replica_at : Reader SReplica
+replica_at = do
+  at ← key_at KReplica
+  name ← lower_at
+  _ ← mark_at Colon
+  state ← type_at NESTING
+  _ ← key_at KFrom
+  from ← expr_at NESTING
+  _ ← key_at KBy
+  merge ← function_at
+  funs ← opened_at ParenL functions_at ParenR
+  pure (record { at = at; name = name; state = state; from = from; merge = merge; funs = funs })
+
+unfoldable pub item_at : Reader Item
+item_at = choice (fronts (is_key KData)) (do
+    declaration ← data_at
+    pure (items.Datatype declaration)) (choice (fronts (is_key KDef)) (do
+    declaration ← definition_at
+    pure (items.Definition declaration)) (choice (fronts (is_key KClaim)) (do
+    declaration ← claim_at
+    pure (items.Claim declaration)) (choice (fronts (is_key KLemma)) (do
+    declaration ← lemma_at
+    pure (items.Lemma declaration)) (do
+    declaration ← replica_at
+    pure (items.Replica declaration)))))
+
+-- there is a first word
+unfoldable pub some_word : List Word → Bool
+some_word [] = false
+some_word (word ∷ rest) = true
+
+unfoldable pub program_at : Reader Surface
+program_at = do
+  all ← each_at some_word item_at
+  pure (record { items = all })

@@ -30,6 +30,7 @@ pub(crate) fn read_type<'t>(
 
 /// The type arguments at the front, none where there is no `<`, and the tokens after them. It takes memory.
 #[cycle(types)]
+#[tactic(auto, unfolding(crate::specs::Reading::type_arguments_at, crate::specs::Reading::types_at, crate::specs::Reading::between_at, crate::specs::Reading::inside, crate::specs::Readers::choice, crate::specs::Readers::bind, crate::specs::Readers::pure, crate::specs::Readers::fail))]
 pub(crate) fn read_type_arguments<'t>(
     alloc: Global,
     room: u32,
