@@ -7,3 +7,4 @@ pub mod Loops
 pub mod TypeSteps
 pub mod Tokens
 pub mod Joins
+pub mod TypesRight

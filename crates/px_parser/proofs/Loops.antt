@@ -74,3 +74,9 @@ module _ {T : Type 0} (test : List Word → Bool) (separator : Mark) (item : Lis
       let step : next_at separator item words ≡ Err n = rw (mark, e) refl in
       rw (each_breaks test (next_at separator item) (next_shrinks test separator item stays) empty words n holds step) refl
   loop_fails items words mid NoMemory holds mark e = tt
+
+  pub loop_shorter : (words mid rest : List Word) (x : T) → mark_at separator words ≡ Ok (tt, mid) → item mid ≡ Ok (x, rest) → length rest < length words
+  loop_shorter words mid rest x mark e =
+      let one : length mid < length words = word_takes _ words mid tt mark in
+      let two : length rest ≤ length mid = stays mid rest x e in
+      omega arith

@@ -6,7 +6,8 @@ use Rattle.px_parser.specs.Gives.{words, Gives}
 use Rattle.px_parser.specs.Reading.{type_at, types_at}
 use Rattle.px_parser.proofs.Fronts.{fails_at}
 use Rattle.px_parser.proofs.TypeSteps.{no_type, a_type, no_name, no_arguments}
-use Rattle.px_parser.proofs.Loops.{loop_first, loop_first_fails, loop_end, loop_next, loop_fails}
+use Rattle.px_parser.proofs.Loops.{loop_first, loop_first_fails, loop_end, loop_next, loop_fails, loop_shorter}
+use Rattle.px_parser.proofs.TypesRight.{type_stays}
 use Rattle.px_parser.proofs.types.+types.Goals as goal
 
 pub read_type-returns-then-room-eq0 : goal.read_type-returns-then-room-eq0
@@ -39,14 +40,16 @@ read_types-loop-after-init t c =
 pub read_types-returns-in_err-next : goal.read_types-returns-in_err-next
 read_types-returns-in_err-next t c =
     let p = err_from_is_err_and c.from_residual-in_err-next.result c.from_residual-in_err-next.ensures.1 in
-    rw (p.1, p.2, ← c.loop-after.invariant) (loop_fails (fronts (is_mark Comma)) Comma (type_at c.args.room) ? refl c.loop-after.types (words c.loop-after.rest) (words c.in-Some.after) c.in_err-next.field-0.0 c.in-Some.ensures.begins c.in-Some.ensures.rest c.in_err-next.ensures)
+    rw (p.1, p.2, ← c.loop-after.invariant) (loop_fails (fronts (is_mark Comma)) Comma (type_at c.args.room) (type_stays c.args.room) refl c.loop-after.types (words c.loop-after.rest) (words c.in-Some.after) c.in_err-next.field-0.0 c.in-Some.ensures.begins c.in-Some.ensures.rest c.in_err-next.ensures)
 
 pub read_types-loop-after-smaller : goal.read_types-loop-after-smaller
-read_types-loop-after-smaller t c = ?
+read_types-loop-after-smaller t c = loop_shorter (fronts (is_mark Comma)) Comma (type_at c.args.room) (type_stays c.args.room) refl (words c.loop-after.rest) (words c.in-Some.after) (words c.in_ok-next.after) c.in_ok-next.next c.in-Some.ensures.rest c.in_ok-next.ensures
 
 pub read_types-loop-after-preserved : goal.read_types-loop-after-preserved
+unfolding types_at
 read_types-loop-after-preserved t c =
-    rw c.in_ok-push-2.ensures.ok (loop_next (fronts (is_mark Comma)) Comma (type_at c.args.room) ? refl c.loop-after.types (words c.loop-after.rest) (words c.in-Some.after) (words c.in_ok-next.after) c.in_ok-next.next c.in-Some.ensures.begins c.in-Some.ensures.rest c.in_ok-next.ensures ∙ c.loop-after.invariant)
+    rw c.in_ok-push-2.ensures.ok (loop_next (fronts (is_mark Comma)) Comma (type_at c.args.room) (type_stays c.args.room) refl c.loop-after.types (words c.loop-after.rest) (words c.in-Some.after) (words c.in_ok-next.after) c.in_ok-next.next c.in-Some.ensures.begins c.in-Some.ensures.rest c.in_ok-next.ensures ∙ c.loop-after.invariant)
 
 pub read_types-returns : goal.read_types-returns
-read_types-returns t c = sym c.loop-after.invariant ∙ loop_end (fronts (is_mark Comma)) Comma (type_at c.args.room) ? refl c.loop-after.types (words c.loop-after.rest) c.in_default.ensures.none
+unfolding types_at
+read_types-returns t c = sym c.loop-after.invariant ∙ loop_end (fronts (is_mark Comma)) Comma (type_at c.args.room) (type_stays c.args.room) refl c.loop-after.types (words c.loop-after.rest) c.in_default.ensures.none
