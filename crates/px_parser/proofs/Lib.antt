@@ -8,3 +8,4 @@ pub mod TypeSteps
 pub mod Tokens
 pub mod Joins
 pub mod TypesRight
+pub mod CommaProperty

@@ -4,8 +4,8 @@ use Rattle.px_lexer.specs.declared.token.Token.{Token}
 use Rattle.px_parser.specs.Words.{Word, words_of}
 use Rattle.px_parser.specs.Grammar.{program}
 use Rattle.px_parser.specs.declared.surface.Surface.{Surface}
-use Rattle.px_parser.specs.declared.program.ParseEnd.{ParseEnd}
-use Rattle.px_parser.specs.declared.program.ParseEnd.TheVariants.{Fault, NoMemory}
+use Rattle.px_parser.specs.declared.parse_end.ParseEnd.{ParseEnd}
+use Rattle.px_parser.specs.declared.parse_end.ParseEnd.TheVariants.{Fault, NoMemory}
 
 -- some program begins with these words
 pub record Begins (words : List Word) : Type 0 where

@@ -31,7 +31,6 @@ use Rattle.px_parser.specs.declared.surface.SExprKind.TheVariants as expr_kinds
 use Rattle.px_parser.specs.declared.surface.SArm.{SArm}
 use Rattle.px_parser.specs.declared.surface.Item.{Item}
 use Rattle.px_parser.specs.declared.surface.Item.TheVariants as items
-use Rattle.px_parser.specs.declared.surface.Surface.{Surface}
 
 -- the value, where the test holds
 abbrev pub where_true : {T : Type 0} → Bool → T → Option T
@@ -132,10 +131,17 @@ names_at name = list_at Comma name
 unfoldable pub type_parameters_at : Reader (List Name)
 type_parameters_at = opened_at Less (names_at upper_at) Greater
 
+unfoldable pub pattern_variables_at : Reader (List Name)
+pattern_variables_at = opened_at ParenL (names_at lower_at) ParenR
+
+-- the fields of a constructor
+unfoldable pub con_fields_at : Reader (List SType)
+con_fields_at = opened_at ParenL (types_at NESTING) ParenR
+
 unfoldable pub con_at : Reader SCon
 con_at = do
   name ← upper_at
-  fields ← opened_at ParenL (types_at NESTING) ParenR
+  fields ← con_fields_at
   pure (record { name = name; fields = fields })
 
 unfoldable pub cons_at : Reader (List SCon)
@@ -206,12 +212,15 @@ param_list_at = list_at Comma param_at
 unfoldable pub params_at : Reader (List SParam)
 params_at = between_at ParenL (up_to ParenR param_list_at) ParenR
 
--- the readers of expressions, around these types and expressions
-unfoldable pub upper_expr_with : Reader (List SType) → Reader SExpr → Reader SExpr
-upper_expr_with types inner = do
+-- the readers of the parts of an expression, around such types and expressions
+unfoldable pub fields_with : ℕ → Reader SExpr → Reader (List SExpr)
+fields_with room inner = choice (fronts (is_mark ParenL)) (inside room (between_at ParenL (list_at Comma inner) ParenR)) (pure [])
+
+unfoldable pub upper_expr_with : Reader (List SType) → Reader (List SExpr) → Reader SExpr
+upper_expr_with types fields = do
   name ← upper_at
   types ← types
-  fields ← opened_at ParenL (list_at Comma inner) ParenR
+  fields ← fields
   pure (record { at = name.at; kind = expr_kinds.Upper name types fields })
 
 unfoldable pub arguments_with : Reader SExpr → Reader (Option (List SExpr))
@@ -219,44 +228,50 @@ arguments_with inner = choice (fronts (is_mark ParenL)) (do
   args ← between_at ParenL (up_to ParenR (list_at Comma inner)) ParenR
   pure (Some args)) (pure None)
 
-unfoldable pub lower_expr_with : Reader (List SType) → Reader SExpr → Reader SExpr
-lower_expr_with types inner = do
+unfoldable pub lower_expr_with : Reader (List SType) → Reader (Option (List SExpr)) → Reader SExpr
+lower_expr_with types args = do
   name ← lower_at
   types ← types
-  args ← arguments_with inner
+  args ← args
   pure (record { at = name.at; kind = expr_kinds.Lower name types args })
 
 unfoldable pub arm_with : Reader SExpr → Reader SArm
 arm_with inner = do
   name ← upper_at
-  vars ← opened_at ParenL (names_at lower_at) ParenR
+  vars ← pattern_variables_at
   _ ← mark_at FatArrow
   body ← inner
   pure (record { name = name; vars = vars; body = body })
 
-unfoldable pub match_with : Reader SExpr → Reader SExpr
-match_with inner = do
+unfoldable pub match_with : Reader SExpr → Reader (List SArm) → Reader SExpr
+match_with inner arms = do
   at ← key_at KMatch
   on ← inner
-  arms ← between_at BraceL (list_at Comma (arm_with inner)) BraceR
+  arms ← between_at BraceL arms BraceR
   pure (record { at = at; kind = expr_kinds.Match on arms })
 
 -- one of the four, by the first word
-unfoldable pub expr_with : ℕ → Reader (List SType) → Reader SExpr → Reader SExpr
-expr_with room types inner = choice (fronts is_number) number_at (choice (fronts is_upper) (upper_expr_with types inner) (choice (fronts is_lower) (lower_expr_with types inner) (inside room (match_with inner))))
+unfoldable pub expr_with : ℕ → Reader SExpr → Reader SExpr
+expr_with room inner = choice (fronts is_number) number_at (choice (fronts is_upper) (upper_expr_with (type_arguments_at room) (fields_with room inner)) (choice (fronts is_lower) (lower_expr_with (type_arguments_at room) (arguments_with inner)) (inside room (match_with inner (list_at Comma (arm_with inner))))))
 
 unfoldable pub expr_at : ℕ → Reader SExpr
 expr_at zero = fail
-expr_at (suc room) = expr_with room (type_arguments_at room) (expr_at room)
+expr_at (suc room) = expr_with room (expr_at room)
 
 unfoldable pub exprs_at : ℕ → Reader (List SExpr)
 exprs_at room = list_at Comma (expr_at room)
 
+unfoldable pub fields_at : ℕ → Reader (List SExpr)
+fields_at room = fields_with room (expr_at room)
+
+unfoldable pub arguments_at : ℕ → Reader (Option (List SExpr))
+arguments_at room = arguments_with (expr_at room)
+
 unfoldable pub upper_expr_at : ℕ → Reader SExpr
-upper_expr_at room = upper_expr_with (type_arguments_at room) (expr_at room)
+upper_expr_at room = upper_expr_with (type_arguments_at room) (fields_at room)
 
 unfoldable pub lower_expr_at : ℕ → Reader SExpr
-lower_expr_at room = lower_expr_with (type_arguments_at room) (expr_at room)
+lower_expr_at room = lower_expr_with (type_arguments_at room) (arguments_at room)
 
 unfoldable pub arm_at : ℕ → Reader SArm
 arm_at room = arm_with (expr_at room)
@@ -265,7 +280,7 @@ unfoldable pub arms_at : ℕ → Reader (List SArm)
 arms_at room = list_at Comma (arm_at room)
 
 unfoldable pub match_at : ℕ → Reader SExpr
-match_at room = inside room (match_with (expr_at room))
+match_at room = inside room (match_with (expr_at room) (arms_at room))
 
 unfoldable pub definition_at : Reader SDef
 definition_at = do
@@ -316,6 +331,10 @@ function_at = do
 unfoldable pub functions_at : Reader (List SFun)
 functions_at = list_at Comma function_at
 
+-- the functions of a merge
+unfoldable pub merge_functions_at : Reader (List SFun)
+merge_functions_at = opened_at ParenL functions_at ParenR
+
 unfoldable pub replica_at : Reader SReplica
 replica_at = do
   at ← key_at KReplica
@@ -326,7 +345,7 @@ replica_at = do
   from ← expr_at NESTING
   _ ← key_at KBy
   merge ← function_at
-  funs ← opened_at ParenL functions_at ParenR
+  funs ← merge_functions_at
   pure (record { at = at; name = name; state = state; from = from; merge = merge; funs = funs })
 
 unfoldable pub item_at : Reader Item
@@ -347,7 +366,5 @@ unfoldable pub some_word : List Word → Bool
 some_word [] = false
 some_word (word ∷ rest) = true
 
-unfoldable pub program_at : Reader Surface
-program_at = do
-  all ← each_at some_word item_at
-  pure (record { items = all })
+unfoldable pub items_at : Reader (List Item)
+items_at = each_at some_word item_at

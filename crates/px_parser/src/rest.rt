@@ -5,7 +5,7 @@ ghost use Rattle.px_parser.specs.Readable.{is_readable};
 
 use crate::names::name_of;
 use crate::read_end::ReadEnd;
-use crate::surface::Name;
+use crate::surface::{Name, SExpr, SExprKind};
 use px_lexer::{Key, Mark, Token, TokenKind};
 use px_terms::RawProp;
 use std::alloc::Global;
@@ -19,11 +19,11 @@ pub(crate) struct Rest<'t> {
 }
 
 impl<'t> Rest<'t> {
-    ghost use Rattle.std.specs.Prelude.{◌≡◌, [], ◌∷◌, length, map, IfSome, IfNone, MatchOption, IfOk, IfErr, Ok, Err, true, false};
+    ghost use Rattle.std.specs.Prelude.{◌≡◌, [], ◌∷◌, length, map, IfSome, IfNone, MatchOption, IfOk, IfErr, Ok, Err, true, false, not};
     ghost use Rattle.px_parser.specs.Words.{word_of, words_of};
     ghost use Rattle.px_parser.specs.Gives.{words, Gives, Passes};
-    ghost use Rattle.px_parser.specs.Reading.{mark_at, key_at, lower_at, upper_at, property_at};
-    ghost use Rattle.px_parser.specs.Kinds.{is_mark, fronts};
+    ghost use Rattle.px_parser.specs.Reading.{mark_at, key_at, lower_at, upper_at, property_at, number_at, comma_property, some_word};
+    ghost use Rattle.px_parser.specs.Kinds.{is_mark, is_key, is_number, is_upper, is_lower, is_property, fronts};
 
     /// The fault at the first of these tokens.
     pub(crate) fn fault(self) -> ReadEnd
@@ -48,6 +48,84 @@ impl<'t> Rest<'t> {
                     tokens,
                 },
             )),
+        }
+    }
+
+    /// Whether no token is left.
+    #[tactic(auto, unfolding(crate::specs::Reading::some_word))]
+    pub(crate) fn is_empty(self) -> bool
+        ensures { some_word (words self.entry) ≡ not result }
+    {
+        self.split().is_none()
+    }
+
+    /// Whether this mark is at the front.
+    pub(crate) fn begins(self, mark: Mark) -> bool
+        ensures { result ≡ fronts (is_mark mark) (words self.entry) }
+    {
+        match self.split() {
+            Some((first, _)) => first.kind == TokenKind::Mark(mark),
+            None => false,
+        }
+    }
+
+    /// Whether this reserved word is at the front.
+    pub(crate) fn begins_key(self, key: Key) -> bool
+        ensures { result ≡ fronts (is_key key) (words self.entry) }
+    {
+        match self.split() {
+            Some((first, _)) => first.kind == TokenKind::Key(key),
+            None => false,
+        }
+    }
+
+    /// Whether a number is at the front.
+    pub(crate) fn begins_number(self) -> bool
+        ensures { result ≡ fronts is_number (words self.entry) }
+    {
+        match self.split() {
+            Some((first, _)) => first.kind == TokenKind::Number,
+            None => false,
+        }
+    }
+
+    /// Whether a name that begins with a capital letter is at the front.
+    pub(crate) fn begins_upper(self) -> bool
+        ensures { result ≡ fronts is_upper (words self.entry) }
+    {
+        match self.split() {
+            Some((first, _)) => first.kind == TokenKind::Upper,
+            None => false,
+        }
+    }
+
+    /// Whether a name that begins with a small letter is at the front.
+    pub(crate) fn begins_lower(self) -> bool
+        ensures { result ≡ fronts is_lower (words self.entry) }
+    {
+        match self.split() {
+            Some((first, _)) => first.kind == TokenKind::Lower,
+            None => false,
+        }
+    }
+
+    /// Whether a property is at the front.
+    fn begins_property(self) -> bool
+        ensures { result ≡ fronts is_property (words self.entry) }
+    {
+        match self.split() {
+            Some((first, _)) => matches!(first.kind, TokenKind::Property(_)),
+            None => false,
+        }
+    }
+
+    /// Whether a comma and a property are at the front.
+    pub(crate) fn begins_comma_property(self) -> bool
+        ensures { result ≡ comma_property (words self.entry) }
+    {
+        match self.past(Mark::Comma) {
+            Some(rest) => rest.begins_property(),
+            None => false,
         }
     }
 
@@ -104,6 +182,23 @@ impl<'t> Rest<'t> {
             },
             rest,
         ))
+    }
+
+    /// The number at the front, and the tokens after it. A fault where the first is another.
+    pub(crate) fn number(self) -> Result<(SExpr, Rest<'t>), ReadEnd>
+        ensures { Gives result (number_at (words self.entry)) }
+    {
+        let Some((first, rest)) = self.split() else {
+            return Err(self.fault());
+        };
+        if first.kind != TokenKind::Number {
+            return Err(self.fault());
+        }
+        let literal = SExpr {
+            at: first.start,
+            kind: SExprKind::Number(first.number),
+        };
+        Ok((literal, rest))
     }
 
     /// The name that begins with a small letter at the front, and the tokens after it. A fault where there is none. It
