@@ -22,3 +22,7 @@ pub no_comma_property : (words : List Word) → fronts (is_mark Comma) words ≡
 unfolding comma_property
 no_comma_property [] is = refl
 no_comma_property (word ∷ ws) is = rw is refl
+
+pub nothing_no_comma : comma_property [] ≡ false
+unfolding comma_property
+nothing_no_comma = refl

@@ -9,3 +9,5 @@ pub mod Tokens
 pub mod Joins
 pub mod TypesRight
 pub mod CommaProperty
+pub mod ExpressionsRight
+pub mod ParametersRight

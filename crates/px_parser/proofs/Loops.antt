@@ -29,6 +29,9 @@ word_takes {T} value_of (w ∷ ws) rest x e = elim (value_of w) as (λ o. found 
   | None ↦ λ h. absurd cc
   ] e
 
+pub word_stays : {T : Type 0} (value_of : Word → Option T) → NoLonger (word_at value_of)
+word_stays value_of s rest x e = let less : length rest < length s = word_takes value_of s rest x e in omega arith
+
 -- a separator and an item
 abbrev pub next_at : {T : Type 0} → Mark → Reader T → Reader T
 next_at separator item = bind (mark_at separator) (λ nothing. item)
@@ -80,3 +83,10 @@ module _ {T : Type 0} (test : List Word → Bool) (separator : Mark) (item : Lis
       let one : length mid < length words = word_takes _ words mid tt mark in
       let two : length rest ≤ length mid = stays mid rest x e in
       omega arith
+
+  pub loop_stops : (items : List T) (words : List Word) (end : ReadEnd) → test words ≡ true → Fails end (mark_at separator words) → Fails end (so_far test (next_at separator item) items words)
+  unfolding bind
+  loop_stops items words (Fault n) holds mark =
+      let step : next_at separator item words ≡ Err n = rw mark refl in
+      rw (each_breaks test (next_at separator item) (next_shrinks test separator item stays) empty words n holds step) refl
+  loop_stops items words NoMemory holds mark = tt

@@ -1,5 +1,5 @@
 -- A reader reads its phrase: what that means, and that it stays so where readers are joined.
-use Rattle.std.proofs.Common.{◌≡◌, ℕ, zero, suc, ◌<◌, ◌≤◌, ◌⊎◌, Bool, true, false, cond, List, [], ◌∷◌, ◌++◌, length, Option, Some, None, Result, Ok, Err, refl, sym, ap, ◌∙◌, subst, inl, inr, append_assoc, arith, length-append}
+use Rattle.std.proofs.Common.{◌≡◌, ℕ, zero, suc, ◌<◌, ◌≤◌, ◌⊎◌, Bool, true, false, cond, not, List, [], ◌∷◌, ◌++◌, length, Option, Some, None, Result, Ok, Err, refl, sym, ap, ◌∙◌, subst, inl, inr, append_assoc, arith, length-append}
 use Rattle.std.proofs.lemmas.List.{append-nil}
 use Rattle.px_lexer.specs.declared.token.TokenKind.{TokenKind}
 use Rattle.px_lexer.specs.declared.token.Mark.TheVariants as mark
@@ -340,3 +340,64 @@ module _ {T : Type 0} {After : List Word → List Word → Type 0} {Ends : List 
     fault = either_fault;
     example = record { words = second.example.words; value = second.example.value; is = Either.other second.example.is };
   }
+
+-- the same phrase said otherwise
+pub right_iff : {T : Type 0} {Before After : List Word → List Word → Type 0} {Ends : List Word → Type 0} {A B : List Word → T → Type 0} {p : List Word → Result (T × List Word) ℕ} → ((words : List Word) (value : T) → A words value → B words value) → ((words : List Word) (value : T) → B words value → A words value) → Right Before After Ends A p → Right Before After Ends B p
+right_iff to back right = record {
+  sound = λ s rest value e.
+    let t = right.sound s rest value e in
+    record { used = t.used; is = to t.used value t.is; whole = t.whole; keeps = t.keeps; before = t.before };
+  complete = λ used rest value is ends. right.complete used rest value (back used value is) ends;
+  fault = λ s left e.
+    let t = right.fault s left e in
+    record { front = t.front; bad = t.bad; whole = t.whole; left_is = t.left_is; more = t.more; value = t.value; viable = to (t.front ++ t.more) t.value t.viable; keeps = t.keeps; before = t.before };
+  example = record { words = right.example.words; value = right.example.value; is = to right.example.words right.example.value right.example.is };
+}
+
+-- a reader that finds the same
+pub right_same : {T : Type 0} {Before After : List Word → List Word → Type 0} {Ends : List Word → Type 0} {A : List Word → T → Type 0} {p q : List Word → Result (T × List Word) ℕ} → ((s : List Word) → p s ≡ q s) → Right Before After Ends A p → Right Before After Ends A q
+right_same same right = record {
+  sound = λ s rest value e.
+    let t = right.sound s rest value (same s ∙ e) in
+    record { used = t.used; is = t.is; whole = t.whole; keeps = λ next h. sym (same (t.used ++ next)) ∙ t.keeps next h; before = t.before };
+  complete = λ used rest value is ends. sym (same (used ++ rest)) ∙ right.complete used rest value is ends;
+  fault = λ s left e.
+    let t = right.fault s left (same s ∙ e) in
+    record { front = t.front; bad = t.bad; whole = t.whole; left_is = t.left_is; more = t.more; value = t.value; viable = t.viable; keeps = λ next h. sym (same (t.front ++ next)) ∙ t.keeps next h; before = t.before };
+  example = right.example;
+}
+
+pub either_swap : {T : Type 0} (A B : List Word → T → Type 0) (words : List Word) (value : T) → Either A B words value → Either B A words value
+either_swap A B words value (one a) = Either.other a
+either_swap A B words value (other b) = Either.one b
+
+cond_flip : {A : Type 0} (b : Bool) (x y : A) → cond (not b) x y ≡ cond b y x
+cond_flip true x y = refl
+cond_flip false x y = refl
+
+pub choice_flip : {T : Type 0} (test : List Word → Bool) (p q : List Word → Result (T × List Word) ℕ) (s : List Word) → choice (λ x. not (test x)) p q s ≡ choice test q p s
+unfolding choice
+choice_flip test p q s = cond_flip (test s) (p s) (q s)
+
+-- the other choice stands first in the reader
+pub right_flip : {T : Type 0} {Before After : List Word → List Word → Type 0} {Ends : List Word → Type 0} {A B : List Word → T → Type 0} (p q : List Word → Result (T × List Word) ℕ) (test : List Word → Bool) → Right Before After Ends (Either A B) (choice (λ x. not (test x)) p q) → Right Before After Ends (Either A B) (choice test q p)
+right_flip p q test right = right_same (choice_flip test p q) right
+
+-- whoever stands before looks less far
+pub right_before : {T : Type 0} {Before Weaker After : List Word → List Word → Type 0} {Ends : List Word → Type 0} {A : List Word → T → Type 0} {p : List Word → Result (T × List Word) ℕ} → ((x y : List Word) → Before x y → Weaker x y) → Right Before After Ends A p → Right Weaker After Ends A p
+right_before weaker right = record {
+  sound = λ s rest value e.
+    let t = right.sound s rest value e in
+    record { used = t.used; is = t.is; whole = t.whole; keeps = t.keeps; before = λ next h. weaker (t.used ++ rest) (t.used ++ next) (t.before next h) };
+  complete = right.complete;
+  fault = λ s left e.
+    let t = right.fault s left e in
+    record { front = t.front; bad = t.bad; whole = t.whole; left_is = t.left_is; more = t.more; value = t.value; viable = t.viable; keeps = t.keeps; before = λ next h. weaker (t.front ++ t.bad) (t.front ++ next) (t.before next h) };
+  example = right.example;
+}
+
+pub two_first : (x y : List Word) → SameTwo x y → SameFirst x y
+two_first [] [] same = tt
+two_first [] (b ∷ y) same = absurd same
+two_first (a ∷ x) [] same = absurd same
+two_first (a ∷ x) (b ∷ y) same = same.0
