@@ -11,3 +11,4 @@ pub mod TypesRight
 pub mod CommaProperty
 pub mod ExpressionsRight
 pub mod ParametersRight
+pub mod DeclarationsRight
