@@ -17,7 +17,7 @@ use Rattle.px_parser.specs.declared.surface.SArm.{SArm}
 use Rattle.px_parser.specs.declared.surface.SExpr.{SExpr}
 use Rattle.px_parser.proofs.Right.{SameFirst, Right, right_done, right_bind, right_choice, right_other, right_ends, right_iff, right_flip, right_same, either_swap}
 use Rattle.px_parser.proofs.Tokens.{right_mark, right_key, right_upper, right_lower, right_number, is_mark-same, is_mark-true}
-use Rattle.px_parser.proofs.Loops.{NoLonger, right_no_longer}
+use Rattle.px_parser.proofs.Loops.{NoLonger, right_no_longer, word_stays, pure_stays, bind_stays}
 use Rattle.px_parser.proofs.Joins.{Anything, Avoids, EndsList, fronts_same, begins, begins_with, begins_optional, begins_mark, begins_between, begins_list, right_list, right_between}
 use Rattle.px_parser.proofs.TypesRight.{right_opened, right_arguments, right_lowers, inside_some, EndsType}
 
@@ -203,3 +203,8 @@ pub expr_stays : (room : ℕ) → NoLonger (expr_at room)
 unfolding expr_at fail
 expr_stays zero s rest x e = absurd (cc)
 expr_stays (suc room) s rest x e = right_no_longer (right_expr room) s rest x e
+
+pub arm_stays : (room : ℕ) → NoLonger (arm_at room)
+unfolding arm_at arm_with
+arm_stays room =
+    bind_stays upper_at _ (word_stays _) (λ name. bind_stays pattern_variables_at _ (right_no_longer right_variables) (λ vars. bind_stays _ _ (word_stays _) (λ arrow. bind_stays (expr_at room) _ (expr_stays room) (λ body. pure_stays _))))

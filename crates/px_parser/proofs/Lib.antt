@@ -12,3 +12,4 @@ pub mod CommaProperty
 pub mod ExpressionsRight
 pub mod ParametersRight
 pub mod DeclarationsRight
+pub mod ExpressionSteps

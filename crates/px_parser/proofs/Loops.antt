@@ -32,6 +32,18 @@ word_takes {T} value_of (w ∷ ws) rest x e = elim (value_of w) as (λ o. found 
 pub word_stays : {T : Type 0} (value_of : Word → Option T) → NoLonger (word_at value_of)
 word_stays value_of s rest x e = let less : length rest < length s = word_takes value_of s rest x e in omega arith
 
+pub pure_stays : {T : Type 0} (value : T) → NoLonger (pure value)
+unfolding pure
+pure_stays value s rest x e = rw (one_result value x s rest e).rest (omega arith)
+
+pub bind_stays : {S T : Type 0} (p : List Word → Result (S × List Word) ℕ) (k : S → List Word → Result (T × List Word) ℕ) → NoLonger p → ((a : S) → NoLonger (k a)) → NoLonger (bind p k)
+unfolding bind
+bind_stays p k first second s rest x e =
+    let b = onward_ok (p s) (λ y. k y.0 y.1) (x, rest) e in
+    let one : length b.value.1 ≤ length s = first s b.value.1 b.value.0 b.first in
+    let two : length rest ≤ length b.value.1 = second b.value.0 b.value.1 rest x b.second in
+    omega arith
+
 -- a separator and an item
 abbrev pub next_at : {T : Type 0} → Mark → Reader T → Reader T
 next_at separator item = bind (mark_at separator) (λ nothing. item)

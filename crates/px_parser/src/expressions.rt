@@ -62,7 +62,7 @@ fn read_construction<'t>(
 
 /// The fields of a constructor at the front, none where there is no `(`, and the tokens after them. It takes memory.
 #[cycle(expressions)]
-#[tactic(auto, unfolding(crate::specs::Reading::fields_at, crate::specs::Reading::exprs_at, crate::specs::Reading::opened_at, crate::specs::Reading::between_at, crate::specs::Readers::choice, crate::specs::Readers::bind, crate::specs::Readers::pure))]
+#[tactic(auto, unfolding(crate::specs::Reading::fields_at, crate::specs::Reading::fields_with, crate::specs::Reading::inside, crate::specs::Reading::exprs_at, crate::specs::Reading::between_at, crate::specs::Readers::choice, crate::specs::Readers::bind, crate::specs::Readers::pure, crate::specs::Readers::fail))]
 fn read_fields<'t>(
     alloc: Global,
     room: u32,
