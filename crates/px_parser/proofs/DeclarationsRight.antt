@@ -1,5 +1,5 @@
 -- Declarations and programs are read.
-use Rattle.std.proofs.Common.{◌≡◌, ℕ, zero, suc, ◌≤◌, ◌==◌, ◌&&◌, length, Bool, true, false, cond, not, List, [], ◌∷◌, ◌++◌, Option, Some, None, Result, Ok, Err, refl, sym, ap, ◌∙◌, subst, append_assoc}
+use Rattle.std.proofs.Common.{◌≡◌, ℕ, zero, suc, ◌+◌, ◌<◌, ◌≤◌, ◌==◌, ◌&&◌, length, Bool, true, false, cond, not, List, [], ◌∷◌, ◌++◌, Option, Some, None, Result, Ok, Err, refl, sym, ap, ◌∙◌, subst, append_assoc, length-append, arith}
 use Rattle.px_terms.specs.declared.limits.TheConstants.{NESTING}
 use Rattle.px_terms.specs.declared.raw.RawProp.{RawProp}
 use Rattle.px_lexer.specs.declared.token.Key.{Key}
@@ -226,3 +226,16 @@ pub right_items : Right SameFirst SameFirst EndsProgram (Each item) items_at
 unfolding items_at
 right_items =
     right_each some_word right_item no_word some_same (λ x y same fails. same) item_starts item_ends (λ rest end. rw end no_word) (λ rest end. rw end (refl, (refl, (refl, refl))))
+
+pub item_shrinks : Shrinks some_word item_at
+item_shrinks s rest x holds e =
+    let t = right_item.sound s rest x e in
+    rw t.whole (simp length-append (let h : 0 < length t.used = used_some t.used (item_starts t.used [] x t.is) in omega arith))
+  where
+    used_some : (used : List Word) → some_word (used ++ []) ≡ true → 0 < length used
+    used_some [] e = let h : some_word [] ≡ false = no_word in absurd (cc)
+    used_some (w ∷ ws) e = omega arith
+
+pub nothing_left : (words : List Word) → some_word words ≡ false → words ≡ []
+nothing_left [] e = refl
+nothing_left (word ∷ rest) e = let h : some_word (word ∷ rest) ≡ true = a_word word rest in absurd (cc)

@@ -102,3 +102,22 @@ module _ {T : Type 0} (test : List Word → Bool) (separator : Mark) (item : Lis
       let step : next_at separator item words ≡ Err n = rw mark refl in
       rw (each_breaks test (next_at separator item) (next_shrinks test separator item stays) empty words n holds step) refl
   loop_stops items words NoMemory holds mark = tt
+
+-- items without separators
+pub each_first : {T : Type 0} (test : List Word → Bool) (item : List Word → Result (T × List Word) ℕ) (words : List Word) → so_far test item [] words ≡ each_at test item words
+each_first {T} test item words = go (each_at test item words)
+  where
+    go : (r : Result (List T × List Word) ℕ) → onward r (λ xs. read ([] ++ xs.0) xs.1) ≡ r
+    go (Ok xs) = refl
+    go (Err n) = refl
+
+module _ {T : Type 0} (test : List Word → Bool) (item : List Word → Result (T × List Word) ℕ) (shrinks : Shrinks test item) (empty : test [] ≡ false) where
+  pub each_end : (items : List T) (words : List Word) → test words ≡ false → so_far test item items words ≡ Ok (items, words)
+  each_end items words fails = rw (each_stops test item shrinks empty words fails) (ap (λ ys. Ok (ys, words)) (append-nil items))
+
+  pub each_next : (items : List T) (words rest : List Word) (x : T) → test words ≡ true → item words ≡ Ok (x, rest) → so_far test item (items ++ x ∷ []) rest ≡ so_far test item items words
+  each_next items words rest x holds e = rw (each_goes test item shrinks empty words rest x holds e) (sym (regroup items x (each_at test item rest)))
+
+  pub each_fails : (items : List T) (words : List Word) (end : ReadEnd) → test words ≡ true → Fails end (item words) → Fails end (so_far test item items words)
+  each_fails items words (Fault n) holds e = rw (each_breaks test item shrinks empty words n holds e) refl
+  each_fails items words NoMemory holds e = tt

@@ -1,4 +1,5 @@
 //! Declarations.
+ghost use Rattle.std.specs.Prelude.{◌≡◌, [], IfOk};
 ghost use Rattle.px_parser.specs.Gives.{words, Gives};
 ghost use Rattle.px_parser.specs.Reading.{con_fields_at, con_at, cons_at, data_at, claim_at, equation_at, equations_at, lemma_at, function_at, functions_at, merge_functions_at, replica_at, definition_at, item_at, items_at};
 
@@ -265,7 +266,8 @@ pub(crate) fn read_items<'t>(
     alloc: Global,
     tokens: Rest<'t>,
 ) -> Result<(Items<Item>, Rest<'t>), ReadEnd>
-    ensures { Gives result (items_at (words tokens.entry)) }
+    ensures reads { Gives result (items_at (words tokens.entry)) }
+    ensures all { IfOk result (λ found. words found.1 ≡ []) }
 {
     let mut items = Items::new(alloc);
     let mut rest = tokens;
