@@ -271,7 +271,7 @@ pub(crate) fn read_items<'t>(
 {
     let mut items = Items::new(alloc);
     let mut rest = tokens;
-    while !rest.is_empty() {
+    'each: while !rest.is_empty() {
         let (item, after) = read_item(alloc, rest)?;
         items.push(item)?;
         rest = after;
