@@ -13,3 +13,6 @@ pub mod ExpressionsRight
 pub mod ParametersRight
 pub mod DeclarationsRight
 pub mod ExpressionSteps
+pub mod Programs
+pub mod TokensReadable
+pub mod Parses

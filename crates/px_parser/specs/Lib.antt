@@ -7,3 +7,4 @@ pub mod Readers
 pub mod Reading
 pub mod Readable
 pub mod Gives
+pub mod Laws

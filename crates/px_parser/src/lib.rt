@@ -4,6 +4,7 @@
 
 mod declarations;
 mod expressions;
+mod laws;
 mod lists;
 mod names;
 mod parameters;
@@ -14,6 +15,7 @@ mod rest;
 mod surface;
 mod types;
 
+pub use laws::{never_both, one_fault, one_tree};
 pub use parse_end::ParseEnd;
 pub use program::parse;
 pub use surface::{
