@@ -53,19 +53,19 @@ right_data : Right SameFirst SameFirst Anything data_declaration data_at
 unfolding data_declaration data_at
 right_data =
     right_bind {EndsA = Anything} (right_key KData) (λ at. right_bind {EndsA = Anything} right_upper (λ name. right_bind right_type_parameters (λ tparams. right_bind {EndsA = Anything} (right_between BraceL BraceR right_cons (λ word rest kind. (rw kind refl, rw kind refl))) (λ cons. right_done _) (λ a used rest t is end. tt))
-      (λ a used rest t is end. begins_with (Avoids (is_mark Less)) (λ used rest value is. begins_between (Avoids (is_mark Less)) BraceL (list Comma con) BraceR (λ word rest kind. rw kind refl) used rest value is) used rest t is)) (λ a used rest t is end. tt)) (λ a used rest t is end. tt)
+    (λ a used rest t is end. begins_with (Avoids (is_mark Less)) (λ used rest value is. begins_between (Avoids (is_mark Less)) BraceL (list Comma con) BraceR (λ word rest kind. rw kind refl) used rest value is) used rest t is)) (λ a used rest t is end. tt)) (λ a used rest t is end. tt)
 
 right_definition : Right SameFirst SameFirst Anything definition definition_at
 unfolding definition definition_at
 right_definition =
     right_bind {EndsA = Anything} (right_key KDef) (λ at. right_bind {EndsA = Anything} right_lower (λ name. right_bind right_type_parameters (λ tparams. right_bind right_params (λ params. right_bind {EndsA = Anything} (right_mark Colon) (λ colon. right_bind (right_type 199) (λ result. right_bind right_with (λ props. right_bind {EndsA = Anything} (right_between BraceL BraceR (right_expr 199) (λ word rest kind. (rw kind refl, rw kind refl))) (λ body. right_done _)
-      (λ a used rest t is end. tt))
-      (λ a used rest t is end. begins_with EndsWith (λ used rest value is. begins_between EndsWith BraceL (expr NESTING) BraceR (λ word rest kind. (rw kind refl, rw kind refl)) used rest value is) used rest t is))
-      (λ a used rest t is end. begins_with_properties (Avoids (is_mark Less)) used rest t (λ word rest kind. rw kind refl) (λ a used is. begins_with (Avoids (is_mark Less)) (λ used rest value is. begins_between (Avoids (is_mark Less)) BraceL (expr NESTING) BraceR (λ word rest kind. rw kind refl) used rest value is) used rest t is) is))
-      (λ a used rest t is end. tt))
-      (λ a used rest t is end. tt))
-      (λ a used rest t is end. begins_with (Avoids (is_mark Less)) (params_front (Avoids (is_mark Less)) (λ word rest kind. rw kind refl)) used rest t is))
-      (λ a used rest t is end. tt)) (λ a used rest t is end. tt)
+    (λ a used rest t is end. tt))
+    (λ a used rest t is end. begins_with EndsWith (λ used rest value is. begins_between EndsWith BraceL (expr NESTING) BraceR (λ word rest kind. (rw kind refl, rw kind refl)) used rest value is) used rest t is))
+    (λ a used rest t is end. begins_with_properties (Avoids (is_mark Less)) used rest t (λ word rest kind. rw kind refl) (λ a used is. begins_with (Avoids (is_mark Less)) (λ used rest value is. begins_between (Avoids (is_mark Less)) BraceL (expr NESTING) BraceR (λ word rest kind. rw kind refl) used rest value is) used rest t is) is))
+    (λ a used rest t is end. tt))
+    (λ a used rest t is end. tt))
+    (λ a used rest t is end. begins_with (Avoids (is_mark Less)) (params_front (Avoids (is_mark Less)) (λ word rest kind. rw kind refl)) used rest t is))
+    (λ a used rest t is end. tt)) (λ a used rest t is end. tt)
 
 right_claim : Right SameFirst SameFirst (EndsList Comma Anything) claim claim_at
 unfolding claim claim_at
@@ -76,7 +76,7 @@ right_equation : Right SameFirst SameFirst EndsExpr equation equation_at
 unfolding equation equation_at
 right_equation =
     right_bind (right_expr 199) (λ left. right_bind {EndsA = Anything} (right_mark Equal) (λ equal. right_bind (right_expr 199) (λ right. right_done _) (λ a used rest t is end. rw is.none end)) (λ a used rest t is end. tt))
-      (λ a used rest t is end. begins_mark EndsExpr (λ word rest kind. (rw kind refl, rw kind refl)) used rest t is)
+    (λ a used rest t is end. begins_mark EndsExpr (λ word rest kind. (rw kind refl, rw kind refl)) used rest t is)
 
 pub equation_stays : NoLonger equation_at
 equation_stays = right_no_longer right_equation
@@ -89,11 +89,11 @@ right_lemma : Right SameFirst SameFirst (EndsList FatArrow EndsExpr) lemma lemma
 unfolding lemma lemma_at
 right_lemma =
     right_bind {EndsA = Anything} (right_key KLemma) (λ at. right_bind {EndsA = Anything} right_lower (λ name. right_bind right_type_parameters (λ tparams. right_bind right_params (λ params. right_bind {EndsA = Anything} (right_mark Colon) (λ colon. right_bind right_equations (λ equations. right_done _)
-      (λ a used rest t is end. rw is.none end))
-      (λ a used rest t is end. tt))
-      (λ a used rest t is end. tt))
-      (λ a used rest t is end. begins_with (Avoids (is_mark Less)) (params_front (Avoids (is_mark Less)) (λ word rest kind. rw kind refl)) used rest t is))
-      (λ a used rest t is end. tt)) (λ a used rest t is end. tt)
+    (λ a used rest t is end. rw is.none end))
+    (λ a used rest t is end. tt))
+    (λ a used rest t is end. tt))
+    (λ a used rest t is end. begins_with (Avoids (is_mark Less)) (params_front (Avoids (is_mark Less)) (λ word rest kind. rw kind refl)) used rest t is))
+    (λ a used rest t is end. tt)) (λ a used rest t is end. tt)
 
 right_function : Right SameFirst SameFirst EndsType function function_at
 unfolding function function_at
@@ -114,13 +114,13 @@ right_replica : Right SameFirst SameFirst EndsExpr replica replica_at
 unfolding replica replica_at
 right_replica =
     right_bind {EndsA = Anything} (right_key KReplica) (λ at. right_bind {EndsA = Anything} right_lower (λ name. right_bind {EndsA = Anything} (right_mark Colon) (λ colon. right_bind (right_type 199) (λ state. right_bind {EndsA = Anything} (right_key KFrom) (λ from_word. right_bind (right_expr 199) (λ from. right_bind {EndsA = Anything} (right_key KBy) (λ by. right_bind right_function (λ merge. right_bind right_merge_functions (λ funs. right_done _)
-      (λ a used rest t is end. rw is.none end.1))
-      (λ a used rest t is end. begins_optional EndsType used rest t (λ used rest value is. begins_between EndsType ParenL (list Comma function) ParenR (λ word rest kind. rw kind refl) used rest value is) (λ a used is. rw is.none end.0) is))
-      (λ a used rest t is end. tt))
-      (λ a used rest t is end. begins EndsExpr (λ word at rest is. (rw is.kind refl, rw is.kind refl)) used rest t is))
-      (λ a used rest t is end. tt))
-      (λ a used rest t is end. begins EndsType (λ word at rest is. rw is.kind refl) used rest t is))
-      (λ a used rest t is end. tt)) (λ a used rest t is end. tt)) (λ a used rest t is end. tt)
+    (λ a used rest t is end. rw is.none end.1))
+    (λ a used rest t is end. begins_optional EndsType used rest t (λ used rest value is. begins_between EndsType ParenL (list Comma function) ParenR (λ word rest kind. rw kind refl) used rest value is) (λ a used is. rw is.none end.0) is))
+    (λ a used rest t is end. tt))
+    (λ a used rest t is end. begins EndsExpr (λ word at rest is. (rw is.kind refl, rw is.kind refl)) used rest t is))
+    (λ a used rest t is end. tt))
+    (λ a used rest t is end. begins EndsType (λ word at rest is. rw is.kind refl) used rest t is))
+    (λ a used rest t is end. tt)) (λ a used rest t is end. tt)) (λ a used rest t is end. tt)
 
 -- what comes after a declaration
 abbrev EndsItem : List Word → Type 0
@@ -162,35 +162,35 @@ right_item : Right SameFirst SameFirst EndsItem item item_at
 unfolding item item_at
 right_item =
     right_choice (fronts (is_key KData)) (fronts_same (is_key KData)) (right_bind right_data (λ declaration. right_done _) (λ a used rest t is end. tt))
-      (right_choice (fronts (is_key KDef)) (fronts_same (is_key KDef)) (right_bind right_definition (λ declaration. right_done _) (λ a used rest t is end. tt))
-        (right_choice (fronts (is_key KClaim)) (fronts_same (is_key KClaim)) (right_bind right_claim (λ declaration. right_done _) (λ a used rest t is end. rw is.none (end.0, tt)))
-          (right_choice (fronts (is_key KLemma)) (fronts_same (is_key KLemma)) (right_bind right_lemma (λ declaration. right_done _) (λ a used rest t is end. rw is.none end.1)) (right_bind right_replica (λ declaration. right_done _) (λ a used rest t is end. rw is.none end.1.1))
-            (λ used rest value is end. lemma_front (λ s. fronts (is_key KLemma) s ≡ true) (key_holds KLemma) used rest value is)
-            (λ used rest value is end. replica_front (Avoids (is_key KLemma)) (λ word rest kind. rw kind refl) used rest value is))
-          (λ used rest value is end. claim_front (λ s. fronts (is_key KClaim) s ≡ true) (key_holds KClaim) used rest value is)
-          (λ used rest value is end. elim is [
-              one i ↦ lemma_front (Avoids (is_key KClaim)) (λ word rest kind. rw kind refl) used rest value i
-            | other i ↦ replica_front (Avoids (is_key KClaim)) (λ word rest kind. rw kind refl) used rest value i
-            ]))
-        (λ used rest value is end. definition_front (λ s. fronts (is_key KDef) s ≡ true) (key_holds KDef) used rest value is)
-        (λ used rest value is end. elim is [
-            one i ↦ claim_front (Avoids (is_key KDef)) (λ word rest kind. rw kind refl) used rest value i
-          | other others ↦ elim others [
-              one i ↦ lemma_front (Avoids (is_key KDef)) (λ word rest kind. rw kind refl) used rest value i
-            | other i ↦ replica_front (Avoids (is_key KDef)) (λ word rest kind. rw kind refl) used rest value i
-            ]
-          ]))
-      (λ used rest value is end. data_front (λ s. fronts (is_key KData) s ≡ true) (key_holds KData) used rest value is)
-      (λ used rest value is end. elim is [
-          one i ↦ definition_front (Avoids (is_key KData)) (λ word rest kind. rw kind refl) used rest value i
-        | other others ↦ elim others [
-            one i ↦ claim_front (Avoids (is_key KData)) (λ word rest kind. rw kind refl) used rest value i
-          | other more ↦ elim more [
-              one i ↦ lemma_front (Avoids (is_key KData)) (λ word rest kind. rw kind refl) used rest value i
-            | other i ↦ replica_front (Avoids (is_key KData)) (λ word rest kind. rw kind refl) used rest value i
-            ]
-          ]
-        ])
+    (right_choice (fronts (is_key KDef)) (fronts_same (is_key KDef)) (right_bind right_definition (λ declaration. right_done _) (λ a used rest t is end. tt))
+    (right_choice (fronts (is_key KClaim)) (fronts_same (is_key KClaim)) (right_bind right_claim (λ declaration. right_done _) (λ a used rest t is end. rw is.none (end.0, tt)))
+    (right_choice (fronts (is_key KLemma)) (fronts_same (is_key KLemma)) (right_bind right_lemma (λ declaration. right_done _) (λ a used rest t is end. rw is.none end.1)) (right_bind right_replica (λ declaration. right_done _) (λ a used rest t is end. rw is.none end.1.1))
+    (λ used rest value is end. lemma_front (λ s. fronts (is_key KLemma) s ≡ true) (key_holds KLemma) used rest value is)
+    (λ used rest value is end. replica_front (Avoids (is_key KLemma)) (λ word rest kind. rw kind refl) used rest value is))
+    (λ used rest value is end. claim_front (λ s. fronts (is_key KClaim) s ≡ true) (key_holds KClaim) used rest value is)
+    (λ used rest value is end. elim is [
+      | one i ↦ lemma_front (Avoids (is_key KClaim)) (λ word rest kind. rw kind refl) used rest value i
+      | other i ↦ replica_front (Avoids (is_key KClaim)) (λ word rest kind. rw kind refl) used rest value i
+    ]))
+    (λ used rest value is end. definition_front (λ s. fronts (is_key KDef) s ≡ true) (key_holds KDef) used rest value is)
+    (λ used rest value is end. elim is [
+      | one i ↦ claim_front (Avoids (is_key KDef)) (λ word rest kind. rw kind refl) used rest value i
+      | other others ↦ elim others [
+        | one i ↦ lemma_front (Avoids (is_key KDef)) (λ word rest kind. rw kind refl) used rest value i
+        | other i ↦ replica_front (Avoids (is_key KDef)) (λ word rest kind. rw kind refl) used rest value i
+      ]
+    ]))
+    (λ used rest value is end. data_front (λ s. fronts (is_key KData) s ≡ true) (key_holds KData) used rest value is)
+    (λ used rest value is end. elim is [
+      | one i ↦ definition_front (Avoids (is_key KData)) (λ word rest kind. rw kind refl) used rest value i
+      | other others ↦ elim others [
+        | one i ↦ claim_front (Avoids (is_key KData)) (λ word rest kind. rw kind refl) used rest value i
+        | other more ↦ elim more [
+          | one i ↦ lemma_front (Avoids (is_key KData)) (λ word rest kind. rw kind refl) used rest value i
+          | other i ↦ replica_front (Avoids (is_key KData)) (λ word rest kind. rw kind refl) used rest value i
+        ]
+      ]
+    ])
 
 pub item_stays : NoLonger item_at
 item_stays = right_no_longer right_item

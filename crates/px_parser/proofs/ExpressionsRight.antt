@@ -39,7 +39,7 @@ pub right_arm : {A : List Word → SExpr → Type 0} {p : List Word → Result (
 unfolding arm arm_with
 right_arm right =
     right_bind {EndsA = Anything} right_upper (λ name. right_bind right_variables (λ vars. right_bind {EndsA = Anything} (right_mark FatArrow) (λ arrow. right_bind right (λ body. right_done _) (λ a used rest t is end. rw is.none end)) (λ a used rest t is end. tt))
-      (λ a used rest t is end. begins_mark (Avoids (is_mark ParenL)) (λ word rest kind. rw kind refl) used rest t is)) (λ a used rest t is end. tt)
+    (λ a used rest t is end. begins_mark (Avoids (is_mark ParenL)) (λ word rest kind. rw kind refl) used rest t is)) (λ a used rest t is end. tt)
 
 upper_front : (Good : List Word → Type 0) → ((word : Word) (rest : List Word) → word.kind ≡ kinds.Upper → Good (word ∷ rest)) → (types : Phrase (List SType)) (inner : Phrase SExpr) (used rest : List Word) (value : SExpr) → upper_expr types inner used value → Good (used ++ rest)
 unfolding upper_expr
@@ -82,16 +82,16 @@ right_some_fields : (room : ℕ) → Inner (expr (suc room)) (expr_at (suc room)
 unfolding fields_at fields_with
 right_some_fields room right =
     let inner : Right SameFirst SameFirst (Avoids (is_mark ParenL)) (optional [] (between ParenL (list Comma (expr (suc room))) ParenR)) (choice (fronts (is_mark ParenL)) (between_at ParenL (list_at Comma (expr_at (suc room))) ParenR) (pure [])) =
-      right_choice (fronts (is_mark ParenL)) (fronts_same (is_mark ParenL)) (right_between ParenL ParenR (right_inner_list right) (λ word rest kind. (rw kind refl, (rw kind refl, rw kind refl)))) (right_done [])
-        (λ used rest value is end. begins_between (λ s. fronts (is_mark ParenL) s ≡ true) ParenL (list Comma (expr (suc room))) ParenR (λ word more kind. rw kind refl) used rest value is)
-        (λ used rest value is end. rw is.none end) in
+    right_choice (fronts (is_mark ParenL)) (fronts_same (is_mark ParenL)) (right_between ParenL ParenR (right_inner_list right) (λ word rest kind. (rw kind refl, (rw kind refl, rw kind refl)))) (right_done [])
+    (λ used rest value is end. begins_between (λ s. fronts (is_mark ParenL) s ≡ true) ParenL (list Comma (expr (suc room))) ParenR (λ word more kind. rw kind refl) used rest value is)
+    (λ used rest value is end. rw is.none end) in
     subst (λ (q : Reader (List SExpr)). Right SameFirst SameFirst (Avoids (is_mark ParenL)) (optional [] (between ParenL (list Comma (expr (suc room))) ParenR)) (choice (fronts (is_mark ParenL)) q (pure []))) (sym (inside_some room (between_at ParenL (list_at Comma (expr_at (suc room))) ParenR))) inner
 
 right_upper_expr : (room : ℕ) → Right SameFirst SameFirst (Avoids (is_mark ParenL)) (optional [] (between ParenL (list Comma (expr room)) ParenR)) (fields_at room) → Right SameFirst SameFirst EndsExpr (upper_expr (type_arguments room) (expr room)) (upper_expr_at room)
 unfolding upper_expr upper_expr_at upper_expr_with
 right_upper_expr room right =
     right_bind {EndsA = Anything} right_upper (λ name. right_bind (right_arguments room) (λ types. right_bind right (λ fields. right_done _) (λ a used rest t is end. rw is.none end.1))
-      (λ a used rest t is end. begins_optional (Avoids (is_mark Less)) used rest t (λ used rest value is. begins_between (Avoids (is_mark Less)) ParenL (list Comma (expr room)) ParenR (λ word rest kind. rw kind refl) used rest value is) (λ a used is. rw is.none end.0) is)) (λ a used rest t is end. tt)
+    (λ a used rest t is end. begins_optional (Avoids (is_mark Less)) used rest t (λ used rest value is. begins_between (Avoids (is_mark Less)) ParenL (list Comma (expr room)) ParenR (λ word rest kind. rw kind refl) used rest value is) (λ a used is. rw is.none end.0) is)) (λ a used rest t is end. tt)
 
 -- the arguments of a call, without the parentheses
 abbrev EndsArguments : List Word → Type 0
@@ -112,15 +112,15 @@ no_arguments : Right SameFirst SameFirst EndsArguments (optional [] (list Comma 
 unfolding up_to
 no_arguments =
     right_flip (list_at Comma (expr_at zero)) (pure []) (fronts (is_mark ParenR)) (right_same list_fails
-      (right_other (λ x. not (fronts (is_mark ParenR) x)) flipped_same no_list (right_done []) (λ used rest value is end. rw (is.none, end) refl)))
+    (right_other (λ x. not (fronts (is_mark ParenR) x)) flipped_same no_list (right_done []) (λ used rest value is end. rw (is.none, end) refl)))
 
 some_arguments : (room : ℕ) → Inner (expr (suc room)) (expr_at (suc room)) → Right SameFirst SameFirst EndsArguments (optional [] (list Comma (expr (suc room)))) (up_to ParenR (list_at Comma (expr_at (suc room))))
 unfolding up_to
 some_arguments room right =
     right_flip (list_at Comma (expr_at (suc room))) (pure []) (fronts (is_mark ParenR)) (right_choice (λ x. not (fronts (is_mark ParenR) x)) flipped_same
-      (right_ends {Ends = EndsList Comma EndsExpr} {Stronger = EndsArguments} paren_ends (right_inner_list right)) (right_done [])
-      (λ used rest value is end. ap not (begins_list (Avoids (is_mark ParenR)) Comma (expr (suc room)) (λ used rest value is. expr_avoids (is_mark ParenR) refl refl refl refl (suc room) used rest value is) used rest value is))
-      (λ used rest value is end. rw (is.none, end) refl))
+    (right_ends {Ends = EndsList Comma EndsExpr} {Stronger = EndsArguments} paren_ends (right_inner_list right)) (right_done [])
+    (λ used rest value is end. ap not (begins_list (Avoids (is_mark ParenR)) Comma (expr (suc room)) (λ used rest value is. expr_avoids (is_mark ParenR) refl refl refl refl (suc room) used rest value is) used rest value is))
+    (λ used rest value is end. rw (is.none, end) refl))
   where
     paren_ends : (rest : List Word) → EndsArguments rest → EndsList Comma EndsExpr rest
     paren_ends [] end = absurd (cc)
@@ -130,8 +130,8 @@ right_arguments_of : (room : ℕ) → Right SameFirst SameFirst EndsArguments (o
 unfolding arguments_at arguments_with
 right_arguments_of room right =
     right_choice (fronts (is_mark ParenL)) (fronts_same (is_mark ParenL)) (right_bind {EndsA = Anything} (right_between ParenL ParenR right closes) (λ args. right_done (Some args)) (λ a used rest t is end. tt)) (right_done None)
-      (λ used rest value is end. begins_with (λ s. fronts (is_mark ParenL) s ≡ true) (λ used rest value is. begins_between (λ s. fronts (is_mark ParenL) s ≡ true) ParenL (optional [] (list Comma (expr room))) ParenR (λ word more kind. rw kind refl) used rest value is) used rest value is)
-      (λ used rest value is end. rw is.none end)
+    (λ used rest value is end. begins_with (λ s. fronts (is_mark ParenL) s ≡ true) (λ used rest value is. begins_between (λ s. fronts (is_mark ParenL) s ≡ true) ParenL (optional [] (list Comma (expr room))) ParenR (λ word more kind. rw kind refl) used rest value is) used rest value is)
+    (λ used rest value is end. rw is.none end)
   where
     closes : (word : Word) (rest : List Word) → word.kind ≡ kinds.Mark ParenR → EndsArguments (word ∷ rest)
     closes word rest kind = rw kind refl
@@ -140,7 +140,7 @@ right_lower_expr : (room : ℕ) → Right SameFirst SameFirst (Avoids (is_mark P
 unfolding lower_expr lower_expr_at lower_expr_with
 right_lower_expr room right =
     right_bind {EndsA = Anything} right_lower (λ name. right_bind (right_arguments room) (λ types. right_bind right (λ args. right_done _) (λ a used rest t is end. rw is.none end.1))
-      (λ a used rest t is end. begins_optional (Avoids (is_mark Less)) used rest t (λ used rest value is. begins_with (Avoids (is_mark Less)) (λ used rest value is. begins_between (Avoids (is_mark Less)) ParenL (optional [] (list Comma (expr room))) ParenR (λ word rest kind. rw kind refl) used rest value is) used rest value is) (λ a used is. rw is.none end.0) is)) (λ a used rest t is end. tt)
+    (λ a used rest t is end. begins_optional (Avoids (is_mark Less)) used rest t (λ used rest value is. begins_with (Avoids (is_mark Less)) (λ used rest value is. begins_between (Avoids (is_mark Less)) ParenL (optional [] (list Comma (expr room))) ParenR (λ word rest kind. rw kind refl) used rest value is) used rest value is) (λ a used is. rw is.none end.0) is)) (λ a used rest t is end. tt)
 
 right_arms : (room : ℕ) → Inner (expr room) (expr_at room) → Right SameFirst SameFirst (EndsList Comma EndsExpr) (list Comma (arm (expr room))) (arms_at room)
 unfolding arms_at arm_at
@@ -150,7 +150,7 @@ right_match : (room : ℕ) → Inner (expr room) (expr_at room) → Right SameFi
 unfolding match_expr match_with
 right_match room right =
     right_bind {EndsA = Anything} (right_key KMatch) (λ at. right_bind right (λ on. right_bind {EndsA = Anything} (right_between BraceL BraceR (right_arms room right) (λ word rest kind. (rw kind refl, (rw kind refl, rw kind refl)))) (λ arms. right_done _) (λ a used rest t is end. tt))
-      (λ a used rest t is end. begins_with EndsExpr (λ used rest value is. begins_between EndsExpr BraceL (list Comma (arm (expr room))) BraceR (λ word rest kind. (rw kind refl, rw kind refl)) used rest value is) used rest t is)) (λ a used rest t is end. tt)
+    (λ a used rest t is end. begins_with EndsExpr (λ used rest value is. begins_between EndsExpr BraceL (list Comma (arm (expr room))) BraceR (λ word rest kind. (rw kind refl, rw kind refl)) used rest value is) used rest t is)) (λ a used rest t is end. tt)
 
 impossible_match : (words : List Word) (value : SExpr) → match_expr (expr zero) words value → ⊥
 unfolding match_expr expr
@@ -163,6 +163,7 @@ right_last_none right =
   where
     no_match : (words : List Word) (value : SExpr) → match_expr (expr zero) words value → ⊥
     no_match words value is = impossible_match words value is
+
     right_flip_other : Right SameFirst SameFirst EndsExpr (Either (match_expr (expr zero)) (lower_expr (type_arguments zero) (expr zero))) (choice (λ x. not (fronts is_lower x)) fail (lower_expr_at zero)) → Right SameFirst SameFirst EndsExpr (Either (lower_expr (type_arguments zero) (expr zero)) (match_expr (expr zero))) (choice (fronts is_lower) (lower_expr_at zero) fail)
     right_flip_other r = right_iff (either_swap _ _) (either_swap _ _) (right_flip fail (lower_expr_at zero) (fronts is_lower) r)
 
@@ -170,28 +171,28 @@ right_last_some : (room : ℕ) → Right SameFirst SameFirst EndsExpr (lower_exp
 unfolding match_at
 right_last_some room first second =
     let both : Right SameFirst SameFirst EndsExpr (Either (lower_expr (type_arguments (suc room)) (expr (suc room))) (match_expr (expr (suc room)))) (choice (fronts is_lower) (lower_expr_at (suc room)) (match_with (expr_at (suc room)) (arms_at (suc room)))) =
-      right_choice (fronts is_lower) (fronts_same is_lower) first second
-        (λ used rest value is end. lower_front (λ s. fronts is_lower s ≡ true) (λ word rest kind. rw kind refl) (type_arguments (suc room)) (expr (suc room)) used rest value is)
-        (λ used rest value is end. match_front (Avoids is_lower) (λ word rest kind. rw kind refl) (expr (suc room)) used rest value is) in
+    right_choice (fronts is_lower) (fronts_same is_lower) first second
+    (λ used rest value is end. lower_front (λ s. fronts is_lower s ≡ true) (λ word rest kind. rw kind refl) (type_arguments (suc room)) (expr (suc room)) used rest value is)
+    (λ used rest value is end. match_front (Avoids is_lower) (λ word rest kind. rw kind refl) (expr (suc room)) used rest value is) in
     subst (λ (q : Reader SExpr). Right SameFirst SameFirst EndsExpr (Either (lower_expr (type_arguments (suc room)) (expr (suc room))) (match_expr (expr (suc room)))) (choice (fronts is_lower) (lower_expr_at (suc room)) q)) (sym (inside_some room (match_with (expr_at (suc room)) (arms_at (suc room))))) both
 
 right_expr_of : (room : ℕ) → Right SameFirst SameFirst EndsExpr (upper_expr (type_arguments room) (expr room)) (upper_expr_at room) → Right SameFirst SameFirst EndsExpr (Either (lower_expr (type_arguments room) (expr room)) (match_expr (expr room))) (choice (fronts is_lower) (lower_expr_at room) (match_at room)) → Inner (expr (suc room)) (expr_at (suc room))
 unfolding expr expr_at expr_with upper_expr_at lower_expr_at match_at fields_at arguments_at arms_at arm_at
 right_expr_of room upper_right last_right =
     right_choice (fronts is_number) (fronts_same is_number) right_number (right_choice (fronts is_upper) (fronts_same is_upper) upper_right last_right
-        (λ used rest value is end. upper_front (λ s. fronts is_upper s ≡ true) (λ word rest kind. rw kind refl) (type_arguments room) (expr room) used rest value is)
-        (λ used rest value is end. elim is [
-            one l ↦ lower_front (Avoids is_upper) (λ word rest kind. rw kind refl) (type_arguments room) (expr room) used rest value l
-          | other m ↦ match_front (Avoids is_upper) (λ word rest kind. rw kind refl) (expr room) used rest value m
-          ]))
-      (λ used rest value is end. number_front (λ s. fronts is_number s ≡ true) (λ word rest kind. rw kind refl) used rest value is)
-      (λ used rest value is end. elim is [
-          one u ↦ upper_front (Avoids is_number) (λ word rest kind. rw kind refl) (type_arguments room) (expr room) used rest value u
-        | other others ↦ elim others [
-            one l ↦ lower_front (Avoids is_number) (λ word rest kind. rw kind refl) (type_arguments room) (expr room) used rest value l
-          | other m ↦ match_front (Avoids is_number) (λ word rest kind. rw kind refl) (expr room) used rest value m
-          ]
-        ])
+    (λ used rest value is end. upper_front (λ s. fronts is_upper s ≡ true) (λ word rest kind. rw kind refl) (type_arguments room) (expr room) used rest value is)
+    (λ used rest value is end. elim is [
+      | one l ↦ lower_front (Avoids is_upper) (λ word rest kind. rw kind refl) (type_arguments room) (expr room) used rest value l
+      | other m ↦ match_front (Avoids is_upper) (λ word rest kind. rw kind refl) (expr room) used rest value m
+    ]))
+    (λ used rest value is end. number_front (λ s. fronts is_number s ≡ true) (λ word rest kind. rw kind refl) used rest value is)
+    (λ used rest value is end. elim is [
+      | one u ↦ upper_front (Avoids is_number) (λ word rest kind. rw kind refl) (type_arguments room) (expr room) used rest value u
+      | other others ↦ elim others [
+        | one l ↦ lower_front (Avoids is_number) (λ word rest kind. rw kind refl) (type_arguments room) (expr room) used rest value l
+        | other m ↦ match_front (Avoids is_number) (λ word rest kind. rw kind refl) (expr room) used rest value m
+      ]
+    ])
 
 pub right_expr : (room : ℕ) → Inner (expr (suc room)) (expr_at (suc room))
 right_expr zero = right_expr_of zero (right_upper_expr zero right_no_fields) (right_last_none (right_lower_expr zero (right_arguments_of zero no_arguments)))

@@ -87,7 +87,7 @@ module _ {T : Type 0} {Mid After : List Word → List Word → Type 0} {EndsItem
   pub right_list_while : Right SameFirst After Ends (list separator A) (list_while test separator item)
   unfolding list list_while
   right_list_while = right_bind right (λ first. right_bind right_others (λ others. right_done (first ∷ others)) (λ others used rest t is end. rw is.none end))
-    (λ first used rest t is end. rw (is.whole, is.is_back.none, append_assoc is.front [] rest) (item_ends is.front rest is.first is.is_front end))
+      (λ first used rest t is end. rw (is.whole, is.is_back.none, append_assoc is.front [] rest) (item_ends is.front rest is.first is.is_front end))
 
 -- what comes after a list
 abbrev pub EndsList : Mark → (List Word → Type 0) → List Word → Type 0
@@ -95,7 +95,7 @@ EndsList separator EndsItem rest = Avoids (is_mark separator) rest × EndsItem r
 
 pub right_list : {T : Type 0} {EndsItem : List Word → Type 0} {A : List Word → T → Type 0} {item : List Word → Result (T × List Word) ℕ} (separator : Mark) → Right SameFirst SameFirst EndsItem A item → ((word : Word) (used rest : List Word) (value : T) → word.kind ≡ kinds.Mark separator → A used value → EndsItem (word ∷ (used ++ rest))) → Right SameFirst SameFirst (EndsList separator EndsItem) (list separator A) (list_at separator item)
 right_list separator right goes_on = right_list_while separator (fronts (is_mark separator)) (right_mark separator) right refl (fronts_same (is_mark separator)) (λ x y same fails. same)
-  (λ word used rest value is a. rw is (is_mark-same separator)) goes_on (λ rest end. end.0) (λ rest end. end.1)
+    (λ word used rest value is a. rw is (is_mark-same separator)) goes_on (λ rest end. end.0) (λ rest end. end.1)
 
 pub right_between : {T : Type 0} {After : List Word → List Word → Type 0} {EndsA Ends : List Word → Type 0} {A : List Word → T → Type 0} {p : List Word → Result (T × List Word) ℕ} (opening closing : Mark) → Right SameFirst SameFirst EndsA A p → ((word : Word) (rest : List Word) → word.kind ≡ kinds.Mark closing → EndsA (word ∷ rest)) → Right SameFirst After Ends (between opening A closing) (between_at opening p closing)
 unfolding between between_at

@@ -25,9 +25,9 @@ word_takes : {T : Type 0} (value_of : Word → Option T) (s rest : List Word) (x
 unfolding word_at
 word_takes value_of [] rest x e = absurd cc
 word_takes {T} value_of (w ∷ ws) rest x e = elim (value_of w) as (λ o. found o ws (length (w ∷ ws)) ≡ Ok (x, rest) → length rest < length (w ∷ ws)) [
-    Some v ↦ λ h. rw (← (one_result v x ws rest h).rest) (omega arith)
+  | Some v ↦ λ h. rw (← (one_result v x ws rest h).rest) (omega arith)
   | None ↦ λ h. absurd cc
-  ] e
+] e
 
 pub word_stays : {T : Type 0} (value_of : Word → Option T) → NoLonger (word_at value_of)
 word_stays value_of s rest x e = let less : length rest < length s = word_takes value_of s rest x e in omega arith

@@ -34,9 +34,9 @@ pub right_with : Right SameFirst SameFirst EndsWith with_properties with_at
 unfolding with_properties with_at
 right_with =
     right_choice (fronts (is_key KWith)) (fronts_same (is_key KWith))
-      (right_bind {EndsA = Anything} (right_key KWith) (λ at. right_ends (λ rest end. (end.1, tt)) right_properties) (λ a used rest t is end. tt)) (right_done [])
-      (λ used rest value is end. begins (λ s. fronts (is_key KWith) s ≡ true) (λ word at rest is. rw is.kind refl) used rest value is)
-      (λ used rest value is end. rw is.none end.0)
+    (right_bind {EndsA = Anything} (right_key KWith) (λ at. right_ends (λ rest end. (end.1, tt)) right_properties) (λ a used rest t is end. tt)) (right_done [])
+    (λ used rest value is end. begins (λ s. fronts (is_key KWith) s ≡ true) (λ word at rest is. rw is.kind refl) used rest value is)
+    (λ used rest value is end. rw is.none end.0)
 
 comma_same : (x y : List Word) → SameTwo x y → comma_property x ≡ comma_property y
 unfolding comma_property
@@ -68,9 +68,9 @@ pub right_param_with : Right SameFirst SameTwo EndsParamWith with_properties par
 unfolding with_properties param_with_at
 right_param_with =
     right_choice (fronts (is_key KWith)) (fronts_same (is_key KWith))
-      (right_bind {EndsA = Anything} (right_key KWith) (λ at. right_ends (λ rest end. end.1) right_param_properties) (λ a used rest t is end. tt)) (right_before two_first (right_done []))
-      (λ used rest value is end. begins (λ s. fronts (is_key KWith) s ≡ true) (λ word at rest is. rw is.kind refl) used rest value is)
-      (λ used rest value is end. rw is.none end.0)
+    (right_bind {EndsA = Anything} (right_key KWith) (λ at. right_ends (λ rest end. end.1) right_param_properties) (λ a used rest t is end. tt)) (right_before two_first (right_done []))
+    (λ used rest value is end. begins (λ s. fronts (is_key KWith) s ≡ true) (λ word at rest is. rw is.kind refl) used rest value is)
+    (λ used rest value is end. rw is.none end.0)
 
 abbrev pub EndsParam : List Word → Type 0
 EndsParam rest = Avoids (is_mark Less) rest × EndsParamWith rest
@@ -84,9 +84,9 @@ right_fn_type : Right SameFirst SameTwo EndsParam fn_type fn_type_at
 unfolding fn_type fn_type_at
 right_fn_type =
     right_bind {EndsA = Anything} (right_key KFn) (λ at. right_bind {EndsA = Anything} (right_between ParenL ParenR (right_types 198) (λ word rest kind. (rw kind refl, rw kind refl))) (λ params. right_bind {EndsA = Anything} (right_mark Arrow) (λ arrow. right_bind (right_type 198) (λ result. right_bind right_param_with (λ props. right_done _)
-      (λ a used rest t is end. rw is.none end.1))
-      (λ a used rest t is end. begins_with_properties (Avoids (is_mark Less)) used rest t (λ word rest kind. rw kind refl) (λ a used is. rw is.none end.0) is))
-      (λ a used rest t is end. tt)) (λ a used rest t is end. tt)) (λ a used rest t is end. tt)
+    (λ a used rest t is end. rw is.none end.1))
+    (λ a used rest t is end. begins_with_properties (Avoids (is_mark Less)) used rest t (λ word rest kind. rw kind refl) (λ a used is. rw is.none end.0) is))
+    (λ a used rest t is end. tt)) (λ a used rest t is end. tt)) (λ a used rest t is end. tt)
 
 type_front : (f : TokenKind → Bool) → f kinds.Upper ≡ false → (room : ℕ) (used rest : List Word) (value : SType) → type (suc room) used value → fronts f (used ++ rest) ≡ false
 unfolding type
@@ -100,10 +100,10 @@ right_param_kind : Right SameFirst SameTwo EndsParam param_kind param_kind_at
 unfolding param_kind param_kind_at
 right_param_kind =
     right_choice (fronts (is_key KFn)) (fronts_same (is_key KFn))
-      (right_bind right_fn_type (λ function. right_done _) (λ a used rest t is end. rw is.none end))
-      (right_bind (right_type 199) (λ value. right_before two_first (right_done _)) (λ a used rest t is end. rw is.none end.0))
-      (λ used rest value is end. begins_with (λ s. fronts (is_key KFn) s ≡ true) fn_type_front used rest value is)
-      (λ used rest value is end. begins_with (Avoids (is_key KFn)) (type_front (is_key KFn) refl 199) used rest value is)
+    (right_bind right_fn_type (λ function. right_done _) (λ a used rest t is end. rw is.none end))
+    (right_bind (right_type 199) (λ value. right_before two_first (right_done _)) (λ a used rest t is end. rw is.none end.0))
+    (λ used rest value is end. begins_with (λ s. fronts (is_key KFn) s ≡ true) fn_type_front used rest value is)
+    (λ used rest value is end. begins_with (Avoids (is_key KFn)) (type_front (is_key KFn) refl 199) used rest value is)
 
 right_param : Right SameFirst SameTwo EndsParam param param_at
 unfolding param param_at
@@ -131,7 +131,7 @@ right_param_list : Right SameFirst SameFirst EndsParamList (list Comma param) pa
 unfolding param_list_at
 right_param_list =
     right_list_while Comma (fronts (is_mark Comma)) right_comma right_param refl (λ x y same. fronts_same (is_mark Comma) x y (two_first x y same)) two_unless_comma
-      (λ word used rest value kind is. rw kind refl) params_go_on (λ rest end. end.0) (λ rest end. end.1)
+    (λ word used rest value kind is. rw kind refl) params_go_on (λ rest end. end.0) (λ rest end. end.1)
 
 abbrev EndsInside : List Word → Type 0
 EndsInside rest = fronts (is_mark ParenR) rest ≡ true
@@ -145,11 +145,11 @@ pub right_params : Right SameFirst SameFirst Anything params params_at
 unfolding params params_at up_to
 right_params =
     right_between {EndsA = EndsInside} ParenL ParenR
-      (right_flip param_list_at (pure []) (fronts (is_mark ParenR)) (right_choice (λ x. not (fronts (is_mark ParenR) x)) (λ x y same. ap not (fronts_same (is_mark ParenR) x y same))
-        (right_ends {Ends = EndsParamList} {Stronger = EndsInside} paren_ends right_param_list) (right_done [])
-        (λ used rest value is end. ap not (begins_list (Avoids (is_mark ParenR)) Comma param (param_front (Avoids (is_mark ParenR)) (λ word rest kind. rw kind refl)) used rest value is))
-        (λ used rest value is end. rw (is.none, end) refl)))
-      (λ word rest kind. rw kind refl)
+    (right_flip param_list_at (pure []) (fronts (is_mark ParenR)) (right_choice (λ x. not (fronts (is_mark ParenR) x)) (λ x y same. ap not (fronts_same (is_mark ParenR) x y same))
+    (right_ends {Ends = EndsParamList} {Stronger = EndsInside} paren_ends right_param_list) (right_done [])
+    (λ used rest value is end. ap not (begins_list (Avoids (is_mark ParenR)) Comma param (param_front (Avoids (is_mark ParenR)) (λ word rest kind. rw kind refl)) used rest value is))
+    (λ used rest value is end. rw (is.none, end) refl)))
+    (λ word rest kind. rw kind refl)
 
 -- parameters stand in parentheses
 pub params_front : (Good : List Word → Type 0) → ((word : Word) (rest : List Word) → word.kind ≡ kinds.Mark ParenL → Good (word ∷ rest)) → (used rest : List Word) (value : List SParam) → params used value → Good (used ++ rest)

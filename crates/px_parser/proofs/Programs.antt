@@ -58,18 +58,18 @@ fault_from : (words front bad more : List Word) (value : List Item) (n : ℕ) �
 fault_from words front [] more value n number whole viable keeps =
     let same : words ≡ front = whole ∙ append-nil front in
     IsFaultAt.end (number ∙ (omega arith))
-      (record { more = more; tree = record { items = value }; is = subst (λ w. program (w ++ more) (record { items = value })) (sym same) (program_of (front ++ more) value viable) })
-      (λ tree is. never words tree 0 is (ap items_at whole ∙ keeps [] tt))
+    (record { more = more; tree = record { items = value }; is = subst (λ w. program (w ++ more) (record { items = value })) (sym same) (program_of (front ++ more) value viable) })
+    (λ tree is. never words tree 0 is (ap items_at whole ∙ keeps [] tt))
 fault_from words front (b ∷ bs) more value n number whole viable keeps =
     let size : length words ≡ length front + suc (length bs) = ap length whole ∙ length-append front (b ∷ bs) in
     let at : n ≡ length front = omega arith in
     let before : take n words ≡ front = rw (at, whole) (take-append_seam front (b ∷ bs)) in
     let through : take (n + 1) words ≡ front ++ b ∷ [] = rw (at, whole) (take-append-add front (b ∷ bs) 1) in
     IsFaultAt.word (omega arith)
-      (record { more = more; tree = record { items = value }; is = subst (λ w. program (w ++ more) (record { items = value })) (sym before) (program_of (front ++ more) value viable) })
-      (λ begins.
-        let is : program (front ++ b ∷ begins.more) begins.tree = subst (λ w. program w begins.tree) (ap (λ w. w ++ begins.more) through ∙ append_assoc front (b ∷ []) begins.more) begins.is in
-        never (front ++ b ∷ begins.more) begins.tree (length (b ∷ begins.more)) is (keeps (b ∷ begins.more) refl))
+    (record { more = more; tree = record { items = value }; is = subst (λ w. program (w ++ more) (record { items = value })) (sym before) (program_of (front ++ more) value viable) })
+    (λ begins.
+    let is : program (front ++ b ∷ begins.more) begins.tree = subst (λ w. program w begins.tree) (ap (λ w. w ++ begins.more) through ∙ append_assoc front (b ∷ []) begins.more) begins.is in
+    never (front ++ b ∷ begins.more) begins.tree (length (b ∷ begins.more)) is (keeps (b ∷ begins.more) refl))
 
 -- the fault that the reader finds
 pub fault_read : (words : List Word) (left n : ℕ) → items_at words ≡ Err left → n ≡ length words - left → IsFaultAt words n
@@ -90,12 +90,12 @@ no_program_and_fault words tree n is (end {n = m} number begins bars) = bars tre
 
 pub one_fault_at : (words : List Word) (n m : ℕ) → IsFaultAt words n → IsFaultAt words m → n ≡ m
 one_fault_at words n m (word {n = a} less begins bars) (word {n = b} less2 begins2 bars2) = elim (cases_order a b) [
-    inl same ↦ same
+  | inl same ↦ same
   | inr others ↦ elim others [
-      inl below ↦ absurd (bars (begins_take (a + 1) b words (omega arith) (omega arith) begins2))
+    | inl below ↦ absurd (bars (begins_take (a + 1) b words (omega arith) (omega arith) begins2))
     | inr above ↦ absurd (bars2 (begins_take (b + 1) a words (omega arith) (omega arith) begins))
-    ]
   ]
+]
 one_fault_at words n m (word {n = a} less begins bars) (end {n = b} number begins2 bars2) = absurd (bars (begins_prefix (a + 1) words begins2))
 one_fault_at words n m (end {n = a} number begins bars) (word {n = b} less2 begins2 bars2) = absurd (bars2 (begins_prefix (b + 1) words begins))
 one_fault_at words n m (end {n = a} number begins bars) (end {n = b} number2 begins2 bars2) = number ∙ sym number2

@@ -27,11 +27,11 @@ module _ {T : Type 0} (test : List Word → Bool) (item : List Word → Result (
   enough (suc n) zero (w ∷ ws) a b = absurd (omega arith)
   enough (suc n) (suc m) (w ∷ ws) a b =
       elim (decided (test (w ∷ ws))) [
-        inl holds ↦
-          rw (holds) (onward_same (item (w ∷ ws)) _ _ (λ x e.
+        | inl holds ↦
+            rw (holds) (onward_same (item (w ∷ ws)) _ _ (λ x e.
             let less : length x.1 < length (w ∷ ws) = shrinks (w ∷ ws) x.1 x.0 holds e in
             rw (enough n m x.1 (omega arith) (omega arith)) refl))
-      | inr fails ↦ rw fails refl
+        | inr fails ↦ rw fails refl
       ]
 
   -- what the reader finds, in steps
@@ -40,11 +40,11 @@ module _ {T : Type 0} (test : List Word → Bool) (item : List Word → Result (
   each_step [] = rw empty refl
   each_step (w ∷ ws) =
       elim (decided (test (w ∷ ws))) [
-        inl holds ↦
-          rw (holds) (onward_same (item (w ∷ ws)) _ _ (λ x e.
+        | inl holds ↦
+            rw (holds) (onward_same (item (w ∷ ws)) _ _ (λ x e.
             let less : length x.1 < length (w ∷ ws) = shrinks (w ∷ ws) x.1 x.0 holds e in
             rw (enough (length ws) (length x.1) x.1 (omega arith) (omega arith)) refl))
-      | inr fails ↦ rw fails refl
+        | inr fails ↦ rw fails refl
       ]
 
   pub each_stops : (s : List Word) → test s ≡ false → each_at test item s ≡ Ok ([], s)
@@ -94,7 +94,7 @@ module _ {T : Type 0} {Mid After : List Word → List Word → Type 0} {EndsItem
         is = Each.more first.is others.is refl;
         whole = first.whole ∙ ap (λ m. first.used ++ m) others.whole ∙ sym (append_assoc first.used others.used rest);
         keeps = λ next h.
-          rw (append_assoc first.used others.used next, each_goes test item shrinks empty (first.used ++ (others.used ++ next)) (others.used ++ next) x (starts first.used (others.used ++ next) x first.is) (first.keeps (others.used ++ next) (same next h)), others.keeps next h) refl;
+            rw (append_assoc first.used others.used next, each_goes test item shrinks empty (first.used ++ (others.used ++ next)) (others.used ++ next) x (starts first.used (others.used ++ next) x first.is) (first.keeps (others.used ++ next) (same next h)), others.keeps next h) refl;
         before = λ next h. rw (append_assoc first.used others.used next, append_assoc first.used others.used rest, ← others.whole) (first.before (others.used ++ next) (same next h));
       }
 
@@ -102,16 +102,16 @@ module _ {T : Type 0} {Mid After : List Word → List Word → Type 0} {EndsItem
   each_sound zero s rest xs less e = absurd (omega arith)
   each_sound (suc n) s rest xs less e =
       elim (decided (test s)) [
-        inr fails ↦ taken_none s rest xs fails e
-      | inl holds ↦
-          let stepped = (rw holds at (sym (each_step test item shrinks empty s) ∙ e)) in
-          let b = onward_ok (item s) _ (xs, rest) stepped in
-          let c = onward_ok (each_at test item b.value.1) _ (xs, rest) b.second in
-          let q : Equal (b.value.0 ∷ c.value.0) xs c.value.1 rest = one_result _ xs c.value.1 rest c.second in
-          let shorter : length b.value.1 < length s = shrinks s b.value.1 b.value.0 holds b.first in
-          let others : Taken Mid After (Each A) (each_at test item) b.value.1 c.value.1 c.value.0 = each_sound n b.value.1 c.value.1 c.value.0 (omega arith) c.first in
-          let all : Taken Mid After (Each A) (each_at test item) s c.value.1 (b.value.0 ∷ c.value.0) = taken_more s b.value.1 c.value.1 b.value.0 c.value.0 (right.sound s b.value.1 b.value.0 b.first) others in
-          subst (λ ys. Taken Mid After (Each A) (each_at test item) s rest ys) q.value (subst (λ r. Taken Mid After (Each A) (each_at test item) s r (b.value.0 ∷ c.value.0)) q.rest all)
+        | inr fails ↦ taken_none s rest xs fails e
+        | inl holds ↦
+            let stepped = (rw holds at (sym (each_step test item shrinks empty s) ∙ e)) in
+            let b = onward_ok (item s) _ (xs, rest) stepped in
+            let c = onward_ok (each_at test item b.value.1) _ (xs, rest) b.second in
+            let q : Equal (b.value.0 ∷ c.value.0) xs c.value.1 rest = one_result _ xs c.value.1 rest c.second in
+            let shorter : length b.value.1 < length s = shrinks s b.value.1 b.value.0 holds b.first in
+            let others : Taken Mid After (Each A) (each_at test item) b.value.1 c.value.1 c.value.0 = each_sound n b.value.1 c.value.1 c.value.0 (omega arith) c.first in
+            let all : Taken Mid After (Each A) (each_at test item) s c.value.1 (b.value.0 ∷ c.value.0) = taken_more s b.value.1 c.value.1 b.value.0 c.value.0 (right.sound s b.value.1 b.value.0 b.first) others in
+            subst (λ ys. Taken Mid After (Each A) (each_at test item) s rest ys) q.value (subst (λ r. Taken Mid After (Each A) (each_at test item) s r (b.value.0 ∷ c.value.0)) q.rest all)
       ]
 
   broken_here : (s : List Word) (left : ℕ) → test s ≡ true → Broken Mid A item s left → Broken Mid (Each A) (each_at test item) s left
@@ -139,7 +139,7 @@ module _ {T : Type 0} {Mid After : List Word → List Word → Type 0} {EndsItem
         value = x ∷ others.value;
         viable = Each.more first.is others.viable (append_assoc first.used others.front others.more);
         keeps = λ next h.
-          rw (append_assoc first.used others.front next, each_goes test item shrinks empty (first.used ++ (others.front ++ next)) (others.front ++ next) x (starts first.used (others.front ++ next) x first.is) (first.keeps (others.front ++ next) (same next h)), others.keeps next h) refl;
+            rw (append_assoc first.used others.front next, each_goes test item shrinks empty (first.used ++ (others.front ++ next)) (others.front ++ next) x (starts first.used (others.front ++ next) x first.is) (first.keeps (others.front ++ next) (same next h)), others.keeps next h) refl;
         before = λ next h. rw (append_assoc first.used others.front next, append_assoc first.used others.front others.bad, ← others.whole) (first.before (others.front ++ next) (same next h));
       }
 
@@ -147,19 +147,19 @@ module _ {T : Type 0} {Mid After : List Word → List Word → Type 0} {EndsItem
   each_fault zero s left less e = absurd (omega arith)
   each_fault (suc n) s left less e =
       elim (decided (test s)) [
-        inr fails ↦ let q : read {A = List T} [] s ≡ Err left = sym (each_stops test item shrinks empty s fails) ∙ e in absurd (cc)
-      | inl holds ↦
-          let stepped = (rw holds at (sym (each_step test item shrinks empty s) ∙ e)) in
-          elim (onward_err (item s) _ left stepped) [
-            inl here ↦ broken_here s left holds (right.fault s left here)
-          | inr b ↦
-              elim (onward_err (each_at test item b.value.1) _ left b.second) [
-                inl later ↦
-                  let shorter : length b.value.1 < length s = shrinks s b.value.1 b.value.0 holds b.first in
-                  broken_later s b.value.1 left b.value.0 (right.sound s b.value.1 b.value.0 b.first) (each_fault n b.value.1 left (omega arith) later)
-              | inr c ↦ let q : read (b.value.0 ∷ c.value.0) c.value.1 ≡ Err left = c.second in absurd (cc)
-              ]
-          ]
+        | inr fails ↦ let q : read {A = List T} [] s ≡ Err left = sym (each_stops test item shrinks empty s fails) ∙ e in absurd (cc)
+        | inl holds ↦
+            let stepped = (rw holds at (sym (each_step test item shrinks empty s) ∙ e)) in
+            elim (onward_err (item s) _ left stepped) [
+              | inl here ↦ broken_here s left holds (right.fault s left here)
+              | inr b ↦
+                  elim (onward_err (each_at test item b.value.1) _ left b.second) [
+                    | inl later ↦
+                        let shorter : length b.value.1 < length s = shrinks s b.value.1 b.value.0 holds b.first in
+                        broken_later s b.value.1 left b.value.0 (right.sound s b.value.1 b.value.0 b.first) (each_fault n b.value.1 left (omega arith) later)
+                    | inr c ↦ let q : read (b.value.0 ∷ c.value.0) c.value.1 ≡ Err left = c.second in absurd (cc)
+                  ]
+            ]
       ]
 
   each_follows : (used rest : List Word) (xs : List T) → Each A used xs → Ends rest → EndsItem (used ++ rest)

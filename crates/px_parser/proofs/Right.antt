@@ -92,14 +92,14 @@ pub right_done : {T : Type 0} {Same : List Word → List Word → Type 0} {Ends 
 unfolding pure
 right_done {T} {Same} {Ends} value = record {
   sound = λ s rest t e.
-    let q : Equal value t s rest = one_result value t s rest e in
-    record {
-      used = [];
-      is = record { none = refl; same = sym q.value };
-      whole = q.rest;
-      keeps = λ next h. rw q.value refl;
-      before = λ next h. h;
-    };
+      let q : Equal value t s rest = one_result value t s rest e in
+      record {
+        used = [];
+        is = record { none = refl; same = sym q.value };
+        whole = q.rest;
+        keeps = λ next h. rw q.value refl;
+        before = λ next h. h;
+      };
   complete = λ used rest t is ends. rw is.none (rw is.same refl);
   fault = λ s left e. absurd (cc);
   example = record { words = []; value = value; is = record { none = refl; same = refl } };
@@ -153,19 +153,19 @@ pub right_bind : {S T : Type 0} {Before Mid After : List Word → List Word → 
 unfolding bind
 right_bind {S} {T} {Before} {Mid} {After} {EndsA} {Ends} {A} {B} {p} {k} first second follows = record {
   sound = λ s rest t e.
-    let both = onward_ok (p s) (λ x. k x.0 x.1) (t, rest) e in
-    bind_taken k s rest both.value.0 both.value.1 t (first.sound s both.value.1 both.value.0 both.first) ((second both.value.0).sound both.value.1 rest t both.second);
+      let both = onward_ok (p s) (λ x. k x.0 x.1) (t, rest) e in
+      bind_taken k s rest both.value.0 both.value.1 t (first.sound s both.value.1 both.value.0 both.first) ((second both.value.0).sound both.value.1 rest t both.second);
   complete = λ used rest t is ends.
-    let from_first : p (is.front ++ (is.back ++ rest)) ≡ Ok (is.first, is.back ++ rest) = first.complete is.front (is.back ++ rest) is.first is.is_front (follows is.first is.back rest t is.is_back ends) in
-    rw (is.whole, append_assoc is.front is.back rest, from_first) ((second is.first).complete is.back rest t is.is_back ends);
+      let from_first : p (is.front ++ (is.back ++ rest)) ≡ Ok (is.first, is.back ++ rest) = first.complete is.front (is.back ++ rest) is.first is.is_front (follows is.first is.back rest t is.is_back ends) in
+      rw (is.whole, append_assoc is.front is.back rest, from_first) ((second is.first).complete is.back rest t is.is_back ends);
   fault = λ s left e.
-    elim (onward_err (p s) (λ x. k x.0 x.1) left e) [
-      inl early ↦ bind_early k s left (λ a. (second a).example) (first.fault s left early)
-    | inr both ↦ bind_late k s left both.value.0 both.value.1 (first.sound s both.value.1 both.value.0 both.first) ((second both.value.0).fault both.value.1 left both.second)
-    ];
+      elim (onward_err (p s) (λ x. k x.0 x.1) left e) [
+        | inl early ↦ bind_early k s left (λ a. (second a).example) (first.fault s left early)
+        | inr both ↦ bind_late k s left both.value.0 both.value.1 (first.sound s both.value.1 both.value.0 both.first) ((second both.value.0).fault both.value.1 left both.second)
+      ];
   example =
-    let next : Example (B first.example.value) = (second first.example.value).example in
-    record { words = first.example.words ++ next.words; value = next.value; is = record { first = first.example.value; front = first.example.words; back = next.words; is_front = first.example.is; is_back = next.is; whole = refl } };
+      let next : Example (B first.example.value) = (second first.example.value).example in
+      record { words = first.example.words ++ next.words; value = next.value; is = record { first = first.example.value; front = first.example.words; back = next.words; is_front = first.example.is; is_back = next.is; whole = refl } };
 }
 
 pub right_ends : {T : Type 0} {Before After : List Word → List Word → Type 0} {Ends Stronger : List Word → Type 0} {A : List Word → T → Type 0} {p : List Word → Result (T × List Word) ℕ} → ((rest : List Word) → Stronger rest → Ends rest) → Right Before After Ends A p → Right Before After Stronger A p
@@ -272,24 +272,24 @@ module _ {T : Type 0} {Before After : List Word → List Word → Type 0} {Ends 
   unfolding choice
   choice_sound s rest value e =
       elim (decided (test s)) [
-        inl holds ↦
-          let t : Taken Before After A p s rest value = first.sound s rest value (rw holds at e) in
-          record { used = t.used; is = Either.one t.is; whole = t.whole; before = t.before; keeps = λ next h. rw (← respects (t.used ++ rest) (t.used ++ next) (t.before next h), ← t.whole, holds) (t.keeps next h) }
-      | inr fails ↦
-          let t : Taken Before After B q s rest value = second.sound s rest value (rw fails at e) in
-          record { used = t.used; is = Either.other t.is; whole = t.whole; before = t.before; keeps = λ next h. rw (← respects (t.used ++ rest) (t.used ++ next) (t.before next h), ← t.whole, fails) (t.keeps next h) }
+        | inl holds ↦
+            let t : Taken Before After A p s rest value = first.sound s rest value (rw holds at e) in
+            record { used = t.used; is = Either.one t.is; whole = t.whole; before = t.before; keeps = λ next h. rw (← respects (t.used ++ rest) (t.used ++ next) (t.before next h), ← t.whole, holds) (t.keeps next h) }
+        | inr fails ↦
+            let t : Taken Before After B q s rest value = second.sound s rest value (rw fails at e) in
+            record { used = t.used; is = Either.other t.is; whole = t.whole; before = t.before; keeps = λ next h. rw (← respects (t.used ++ rest) (t.used ++ next) (t.before next h), ← t.whole, fails) (t.keeps next h) }
       ]
 
   choice_fault : (s : List Word) (left : ℕ) → choice test p q s ≡ Err left → Broken Before (Either A B) (choice test p q) s left
   unfolding choice
   choice_fault s left e =
       elim (decided (test s)) [
-        inl holds ↦
-          let t : Broken Before A p s left = first.fault s left (rw holds at e) in
-          record { front = t.front; bad = t.bad; whole = t.whole; left_is = t.left_is; more = t.more; value = t.value; viable = Either.one t.viable; before = t.before; keeps = λ next h. rw (← respects (t.front ++ t.bad) (t.front ++ next) (t.before next h), ← t.whole, holds) (t.keeps next h) }
-      | inr fails ↦
-          let t : Broken Before B q s left = second.fault s left (rw fails at e) in
-          record { front = t.front; bad = t.bad; whole = t.whole; left_is = t.left_is; more = t.more; value = t.value; viable = Either.other t.viable; before = t.before; keeps = λ next h. rw (← respects (t.front ++ t.bad) (t.front ++ next) (t.before next h), ← t.whole, fails) (t.keeps next h) }
+        | inl holds ↦
+            let t : Broken Before A p s left = first.fault s left (rw holds at e) in
+            record { front = t.front; bad = t.bad; whole = t.whole; left_is = t.left_is; more = t.more; value = t.value; viable = Either.one t.viable; before = t.before; keeps = λ next h. rw (← respects (t.front ++ t.bad) (t.front ++ next) (t.before next h), ← t.whole, holds) (t.keeps next h) }
+        | inr fails ↦
+            let t : Broken Before B q s left = second.fault s left (rw fails at e) in
+            record { front = t.front; bad = t.bad; whole = t.whole; left_is = t.left_is; more = t.more; value = t.value; viable = Either.other t.viable; before = t.before; keeps = λ next h. rw (← respects (t.front ++ t.bad) (t.front ++ next) (t.before next h), ← t.whole, fails) (t.keeps next h) }
       ]
 
   pub right_choice : ((used rest : List Word) (value : T) → A used value → Ends rest → test (used ++ rest) ≡ true) → ((used rest : List Word) (value : T) → B used value → Ends rest → test (used ++ rest) ≡ false) → Right Before After Ends (Either A B) (choice test p q)
@@ -297,9 +297,9 @@ module _ {T : Type 0} {Before After : List Word → List Word → Type 0} {Ends 
   right_choice picks leaves = record {
     sound = choice_sound;
     complete = λ used rest value is ends. elim is [
-        one a ↦ rw (picks used rest value a ends) (first.complete used rest value a ends)
+      | one a ↦ rw (picks used rest value a ends) (first.complete used rest value a ends)
       | other b ↦ rw (leaves used rest value b ends) (second.complete used rest value b ends)
-      ];
+    ];
     fault = choice_fault;
     example = record { words = first.example.words; value = first.example.value; is = Either.one first.example.is };
   }
@@ -310,23 +310,23 @@ module _ {T : Type 0} {After : List Word → List Word → Type 0} {Ends : List 
   unfolding choice fail
   either_fault s left e =
       elim (decided (test s)) [
-        inl holds ↦
-          let h : choice test fail q s ≡ no_read T (length s) = rw holds refl in
-          let n : length s ≡ left = same_left T (length s) left (sym h ∙ e) in
-          record { front = []; bad = s; whole = refl; left_is = sym n; more = second.example.words; value = second.example.value; viable = Either.other second.example.is; before = λ next h. h; keeps = λ next h. rw (← respects s next h, holds) refl }
-      | inr fails ↦
-          let t : Broken SameFirst B q s left = second.fault s left (rw fails at e) in
-          record { front = t.front; bad = t.bad; whole = t.whole; left_is = t.left_is; more = t.more; value = t.value; viable = Either.other t.viable; before = t.before; keeps = λ next h. rw (← respects (t.front ++ t.bad) (t.front ++ next) (t.before next h), ← t.whole, fails) (t.keeps next h) }
+        | inl holds ↦
+            let h : choice test fail q s ≡ no_read T (length s) = rw holds refl in
+            let n : length s ≡ left = same_left T (length s) left (sym h ∙ e) in
+            record { front = []; bad = s; whole = refl; left_is = sym n; more = second.example.words; value = second.example.value; viable = Either.other second.example.is; before = λ next h. h; keeps = λ next h. rw (← respects s next h, holds) refl }
+        | inr fails ↦
+            let t : Broken SameFirst B q s left = second.fault s left (rw fails at e) in
+            record { front = t.front; bad = t.bad; whole = t.whole; left_is = t.left_is; more = t.more; value = t.value; viable = Either.other t.viable; before = t.before; keeps = λ next h. rw (← respects (t.front ++ t.bad) (t.front ++ next) (t.before next h), ← t.whole, fails) (t.keeps next h) }
       ]
 
   either_sound : (s rest : List Word) (value : T) → choice test fail q s ≡ Ok (value, rest) → Taken SameFirst After (Either A B) (choice test fail q) s rest value
   unfolding choice fail
   either_sound s rest value e =
       elim (decided (test s)) [
-        inl holds ↦ absurd (let h : choice test fail q s ≡ Err (length s) = rw holds refl in cc)
-      | inr fails ↦
-          let t : Taken SameFirst After B q s rest value = second.sound s rest value (rw fails at e) in
-          record { used = t.used; is = Either.other t.is; whole = t.whole; before = t.before; keeps = λ next h. rw (← respects (t.used ++ rest) (t.used ++ next) (t.before next h), ← t.whole, fails) (t.keeps next h) }
+        | inl holds ↦ absurd (let h : choice test fail q s ≡ Err (length s) = rw holds refl in cc)
+        | inr fails ↦
+            let t : Taken SameFirst After B q s rest value = second.sound s rest value (rw fails at e) in
+            record { used = t.used; is = Either.other t.is; whole = t.whole; before = t.before; keeps = λ next h. rw (← respects (t.used ++ rest) (t.used ++ next) (t.before next h), ← t.whole, fails) (t.keeps next h) }
       ]
 
   pub right_other : ((used rest : List Word) (value : T) → B used value → Ends rest → test (used ++ rest) ≡ false) → Right SameFirst After Ends (Either A B) (choice test fail q)
@@ -334,9 +334,9 @@ module _ {T : Type 0} {After : List Word → List Word → Type 0} {Ends : List 
   right_other leaves = record {
     sound = either_sound;
     complete = λ used rest value is end. elim is [
-        one a ↦ absurd (nothing used value a)
+      | one a ↦ absurd (nothing used value a)
       | other b ↦ rw (leaves used rest value b end) (second.complete used rest value b end)
-      ];
+    ];
     fault = either_fault;
     example = record { words = second.example.words; value = second.example.value; is = Either.other second.example.is };
   }
@@ -345,12 +345,12 @@ module _ {T : Type 0} {After : List Word → List Word → Type 0} {Ends : List 
 pub right_iff : {T : Type 0} {Before After : List Word → List Word → Type 0} {Ends : List Word → Type 0} {A B : List Word → T → Type 0} {p : List Word → Result (T × List Word) ℕ} → ((words : List Word) (value : T) → A words value → B words value) → ((words : List Word) (value : T) → B words value → A words value) → Right Before After Ends A p → Right Before After Ends B p
 right_iff to back right = record {
   sound = λ s rest value e.
-    let t = right.sound s rest value e in
-    record { used = t.used; is = to t.used value t.is; whole = t.whole; keeps = t.keeps; before = t.before };
+      let t = right.sound s rest value e in
+      record { used = t.used; is = to t.used value t.is; whole = t.whole; keeps = t.keeps; before = t.before };
   complete = λ used rest value is ends. right.complete used rest value (back used value is) ends;
   fault = λ s left e.
-    let t = right.fault s left e in
-    record { front = t.front; bad = t.bad; whole = t.whole; left_is = t.left_is; more = t.more; value = t.value; viable = to (t.front ++ t.more) t.value t.viable; keeps = t.keeps; before = t.before };
+      let t = right.fault s left e in
+      record { front = t.front; bad = t.bad; whole = t.whole; left_is = t.left_is; more = t.more; value = t.value; viable = to (t.front ++ t.more) t.value t.viable; keeps = t.keeps; before = t.before };
   example = record { words = right.example.words; value = right.example.value; is = to right.example.words right.example.value right.example.is };
 }
 
@@ -358,12 +358,12 @@ right_iff to back right = record {
 pub right_same : {T : Type 0} {Before After : List Word → List Word → Type 0} {Ends : List Word → Type 0} {A : List Word → T → Type 0} {p q : List Word → Result (T × List Word) ℕ} → ((s : List Word) → p s ≡ q s) → Right Before After Ends A p → Right Before After Ends A q
 right_same same right = record {
   sound = λ s rest value e.
-    let t = right.sound s rest value (same s ∙ e) in
-    record { used = t.used; is = t.is; whole = t.whole; keeps = λ next h. sym (same (t.used ++ next)) ∙ t.keeps next h; before = t.before };
+      let t = right.sound s rest value (same s ∙ e) in
+      record { used = t.used; is = t.is; whole = t.whole; keeps = λ next h. sym (same (t.used ++ next)) ∙ t.keeps next h; before = t.before };
   complete = λ used rest value is ends. sym (same (used ++ rest)) ∙ right.complete used rest value is ends;
   fault = λ s left e.
-    let t = right.fault s left (same s ∙ e) in
-    record { front = t.front; bad = t.bad; whole = t.whole; left_is = t.left_is; more = t.more; value = t.value; viable = t.viable; keeps = λ next h. sym (same (t.front ++ next)) ∙ t.keeps next h; before = t.before };
+      let t = right.fault s left (same s ∙ e) in
+      record { front = t.front; bad = t.bad; whole = t.whole; left_is = t.left_is; more = t.more; value = t.value; viable = t.viable; keeps = λ next h. sym (same (t.front ++ next)) ∙ t.keeps next h; before = t.before };
   example = right.example;
 }
 
@@ -387,12 +387,12 @@ right_flip p q test right = right_same (choice_flip test p q) right
 pub right_before : {T : Type 0} {Before Weaker After : List Word → List Word → Type 0} {Ends : List Word → Type 0} {A : List Word → T → Type 0} {p : List Word → Result (T × List Word) ℕ} → ((x y : List Word) → Before x y → Weaker x y) → Right Before After Ends A p → Right Weaker After Ends A p
 right_before weaker right = record {
   sound = λ s rest value e.
-    let t = right.sound s rest value e in
-    record { used = t.used; is = t.is; whole = t.whole; keeps = t.keeps; before = λ next h. weaker (t.used ++ rest) (t.used ++ next) (t.before next h) };
+      let t = right.sound s rest value e in
+      record { used = t.used; is = t.is; whole = t.whole; keeps = t.keeps; before = λ next h. weaker (t.used ++ rest) (t.used ++ next) (t.before next h) };
   complete = right.complete;
   fault = λ s left e.
-    let t = right.fault s left e in
-    record { front = t.front; bad = t.bad; whole = t.whole; left_is = t.left_is; more = t.more; value = t.value; viable = t.viable; keeps = t.keeps; before = λ next h. weaker (t.front ++ t.bad) (t.front ++ next) (t.before next h) };
+      let t = right.fault s left e in
+      record { front = t.front; bad = t.bad; whole = t.whole; left_is = t.left_is; more = t.more; value = t.value; viable = t.viable; keeps = t.keeps; before = λ next h. weaker (t.front ++ t.bad) (t.front ++ next) (t.before next h) };
   example = right.example;
 }
 

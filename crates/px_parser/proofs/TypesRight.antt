@@ -25,8 +25,8 @@ pub right_opened : {T : Type 0} {EndsA : List Word → Type 0} {A : List Word �
 unfolding opened_at
 right_opened {T} {EndsA} {A} {p} opening closing right closes =
     right_choice (fronts (is_mark opening)) (fronts_same (is_mark opening)) (right_between opening closing right closes) (right_done [])
-      (λ used rest value is end. begins_between (λ s. fronts (is_mark opening) s ≡ true) opening A closing (λ word more kind. rw kind (is_mark-same opening)) used rest value is)
-      (λ used rest value is end. rw is.none end)
+    (λ used rest value is end. begins_between (λ s. fronts (is_mark opening) s ≡ true) opening A closing (λ word more kind. rw kind (is_mark-same opening)) used rest value is)
+    (λ used rest value is end. rw is.none end)
 
 abbrev pub EndsType : List Word → Type 0
 EndsType = Avoids (is_mark Less)
@@ -46,9 +46,9 @@ inside_some room p = rw (eqb-suc-zero room) refl
 right_some_arguments : (room : ℕ) → Right SameFirst SameFirst EndsType (type (suc room)) (type_at (suc room)) → Right SameFirst SameFirst EndsType (type_arguments (suc room)) (type_arguments_with (suc room) (type_at (suc room)))
 right_some_arguments room right =
     let inner : Right SameFirst SameFirst EndsType (type_arguments (suc room)) (choice (fronts (is_mark Less)) (between_at Less (list_at Comma (type_at (suc room))) Greater) (pure [])) =
-      right_choice (fronts (is_mark Less)) (fronts_same (is_mark Less)) (right_between Less Greater (right_list Comma right (λ word used rest value kind is. rw kind refl)) (λ word rest kind. (rw kind refl, rw kind refl))) (right_done [])
-        (λ used rest value is end. begins_between (λ s. fronts (is_mark Less) s ≡ true) Less (list Comma (type (suc room))) Greater (λ word more kind. rw kind refl) used rest value is)
-        (λ used rest value is end. rw is.none end) in
+    right_choice (fronts (is_mark Less)) (fronts_same (is_mark Less)) (right_between Less Greater (right_list Comma right (λ word used rest value kind is. rw kind refl)) (λ word rest kind. (rw kind refl, rw kind refl))) (right_done [])
+    (λ used rest value is end. begins_between (λ s. fronts (is_mark Less) s ≡ true) Less (list Comma (type (suc room))) Greater (λ word more kind. rw kind refl) used rest value is)
+    (λ used rest value is end. rw is.none end) in
     subst (λ (q : Reader (List SType)). Right SameFirst SameFirst EndsType (type_arguments (suc room)) (choice (fronts (is_mark Less)) q (pure []))) (sym (inside_some room (between_at Less (list_at Comma (type_at (suc room))) Greater))) inner
 
 right_type_with : (room : ℕ) → Right SameFirst SameFirst EndsType (type_arguments room) (type_arguments_with room (type_at room)) → Right SameFirst SameFirst EndsType (type (suc room)) (type_at (suc room))

@@ -87,8 +87,8 @@ fn_type = do
 -- `fntype | type`
 unfoldable pub param_kind : Phrase SParamKind
 param_kind = Either (do
-    function ← fn_type
-    done (param_kinds.Function function)) (do
+  function ← fn_type
+  done (param_kinds.Function function)) (do
     value ← type NESTING
     done (param_kinds.Value value))
 
@@ -209,16 +209,16 @@ replica = do
 -- `data | def | claim | lemma | replica`
 unfoldable pub item : Phrase Item
 item = Either (do
-    declaration ← data_declaration
-    done (items.Datatype declaration)) (Either (do
+  declaration ← data_declaration
+  done (items.Datatype declaration)) (Either (do
     declaration ← definition
     done (items.Definition declaration)) (Either (do
-    declaration ← claim
-    done (items.Claim declaration)) (Either (do
-    declaration ← lemma
-    done (items.Lemma declaration)) (do
-    declaration ← replica
-    done (items.Replica declaration)))))
+      declaration ← claim
+      done (items.Claim declaration)) (Either (do
+        declaration ← lemma
+        done (items.Lemma declaration)) (do
+          declaration ← replica
+          done (items.Replica declaration)))))
 
 -- the words of a program, and its tree: any number of declarations
 unfoldable pub program : Phrase Surface

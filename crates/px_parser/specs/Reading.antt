@@ -190,8 +190,8 @@ fn_type_at = do
 
 unfoldable pub param_kind_at : Reader SParamKind
 param_kind_at = choice (fronts (is_key KFn)) (do
-    function ← fn_type_at
-    pure (param_kinds.Function function)) (do
+  function ← fn_type_at
+  pure (param_kinds.Function function)) (do
     value ← type_at NESTING
     pure (param_kinds.Value value))
 
@@ -350,16 +350,16 @@ replica_at = do
 
 unfoldable pub item_at : Reader Item
 item_at = choice (fronts (is_key KData)) (do
-    declaration ← data_at
-    pure (items.Datatype declaration)) (choice (fronts (is_key KDef)) (do
+  declaration ← data_at
+  pure (items.Datatype declaration)) (choice (fronts (is_key KDef)) (do
     declaration ← definition_at
     pure (items.Definition declaration)) (choice (fronts (is_key KClaim)) (do
-    declaration ← claim_at
-    pure (items.Claim declaration)) (choice (fronts (is_key KLemma)) (do
-    declaration ← lemma_at
-    pure (items.Lemma declaration)) (do
-    declaration ← replica_at
-    pure (items.Replica declaration)))))
+      declaration ← claim_at
+      pure (items.Claim declaration)) (choice (fronts (is_key KLemma)) (do
+        declaration ← lemma_at
+        pure (items.Lemma declaration)) (do
+          declaration ← replica_at
+          pure (items.Replica declaration)))))
 
 -- there is a first word
 unfoldable pub some_word : List Word → Bool

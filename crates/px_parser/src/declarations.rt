@@ -8,9 +8,7 @@ use crate::lists::{read_properties, read_type_parameters, read_with};
 use crate::parameters::read_params;
 use crate::read_end::ReadEnd;
 use crate::rest::Rest;
-use crate::surface::{
-    Item, SClaim, SCon, SData, SDef, SEquation, SFun, SLemma, SReplica, SType,
-};
+use crate::surface::{Item, SClaim, SCon, SData, SDef, SEquation, SFun, SLemma, SReplica, SType};
 use crate::types::{read_type, read_type_arguments, read_types};
 use px_lexer::{Key, Mark};
 use px_terms::limits::NESTING;
@@ -20,10 +18,7 @@ use std::alloc::Global;
 /// The types of a constructor's fields at the front, none where there is no `(`, and the tokens after them. It takes
 /// memory.
 #[tactic(auto, unfolding(crate::specs::Reading::con_fields_at, crate::specs::Reading::opened_at, crate::specs::Reading::between_at, crate::specs::Readers::choice, crate::specs::Readers::bind, crate::specs::Readers::pure))]
-fn read_con_fields<'t>(
-    alloc: Global,
-    tokens: Rest<'t>,
-) -> Result<(Items<SType>, Rest<'t>), ReadEnd>
+fn read_con_fields<'t>(alloc: Global, tokens: Rest<'t>) -> Result<(Items<SType>, Rest<'t>), ReadEnd>
     ensures { Gives result (con_fields_at (words tokens.entry)) }
 {
     let Some(rest) = tokens.past(Mark::ParenL) else {
@@ -179,10 +174,7 @@ fn read_function<'t>(alloc: Global, tokens: Rest<'t>) -> Result<(SFun, Rest<'t>)
 }
 
 /// The functions at the front, with commas between, and the tokens after them. It takes memory.
-fn read_functions<'t>(
-    alloc: Global,
-    tokens: Rest<'t>,
-) -> Result<(Items<SFun>, Rest<'t>), ReadEnd>
+fn read_functions<'t>(alloc: Global, tokens: Rest<'t>) -> Result<(Items<SFun>, Rest<'t>), ReadEnd>
     ensures { Gives result (functions_at (words tokens.entry)) }
 {
     let mut functions = Items::new(alloc);

@@ -84,11 +84,7 @@ fn read_fields<'t>(
 /// The expression at the front that begins with a variable or a function, and the tokens after it. It takes memory.
 #[cycle(expressions)]
 #[tactic(auto, unfolding(crate::specs::Reading::lower_expr_at, crate::specs::Reading::lower_expr_with, crate::specs::Readers::bind, crate::specs::Readers::pure))]
-fn read_call<'t>(
-    alloc: Global,
-    room: u32,
-    tokens: Rest<'t>,
-) -> Result<(SExpr, Rest<'t>), ReadEnd>
+fn read_call<'t>(alloc: Global, room: u32, tokens: Rest<'t>) -> Result<(SExpr, Rest<'t>), ReadEnd>
     ensures { Gives result (lower_expr_at room (words tokens.entry)) }
 {
     let (name, rest) = tokens.lower(alloc)?;
@@ -145,11 +141,7 @@ fn read_expressions<'t>(
 /// The match at the front, and the tokens after it. It takes memory.
 #[cycle(expressions)]
 #[tactic(auto, unfolding(crate::specs::Reading::match_at, crate::specs::Reading::match_with, crate::specs::Reading::inside, crate::specs::Reading::between_at, crate::specs::Readers::fail, crate::specs::Readers::bind, crate::specs::Readers::pure))]
-fn read_match<'t>(
-    alloc: Global,
-    room: u32,
-    tokens: Rest<'t>,
-) -> Result<(SExpr, Rest<'t>), ReadEnd>
+fn read_match<'t>(alloc: Global, room: u32, tokens: Rest<'t>) -> Result<(SExpr, Rest<'t>), ReadEnd>
     ensures { Gives result (match_at room (words tokens.entry)) }
 {
     if room == 0 {
@@ -190,11 +182,7 @@ fn read_arms<'t>(
 /// The arm at the front, and the tokens after it. It takes memory.
 #[cycle(expressions)]
 #[tactic(auto, unfolding(crate::specs::Reading::arm_at, crate::specs::Reading::arm_with, crate::specs::Readers::bind, crate::specs::Readers::pure))]
-fn read_arm<'t>(
-    alloc: Global,
-    room: u32,
-    tokens: Rest<'t>,
-) -> Result<(SArm, Rest<'t>), ReadEnd>
+fn read_arm<'t>(alloc: Global, room: u32, tokens: Rest<'t>) -> Result<(SArm, Rest<'t>), ReadEnd>
     ensures { Gives result (arm_at room (words tokens.entry)) }
 {
     let (name, rest) = tokens.upper(alloc)?;

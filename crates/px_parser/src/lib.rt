@@ -19,8 +19,8 @@ pub use laws::{never_both, one_fault, one_tree};
 pub use parse_end::ParseEnd;
 pub use program::parse;
 pub use surface::{
-    Item, Name, SArm, SClaim, SCon, SData, SDef, SEquation, SExpr, SExprKind, SFnType, SFun, SLemma,
-    SParam, SParamKind, SReplica, SType, Surface,
+    Item, Name, SArm, SClaim, SCon, SData, SDef, SEquation, SExpr, SExprKind, SFnType, SFun,
+    SLemma, SParam, SParamKind, SReplica, SType, Surface,
 };
 
 #[cfg(test)]

@@ -12,10 +12,7 @@ use std::alloc::Global;
 
 /// The names that begin with a capital letter at the front, with commas between, and the tokens after them. It takes
 /// memory.
-fn read_uppers<'t>(
-    alloc: Global,
-    tokens: Rest<'t>,
-) -> Result<(Items<Name>, Rest<'t>), ReadEnd>
+fn read_uppers<'t>(alloc: Global, tokens: Rest<'t>) -> Result<(Items<Name>, Rest<'t>), ReadEnd>
     ensures { Gives result (names_at upper_at (words tokens.entry)) }
 {
     let mut names = Items::new(alloc);
@@ -30,10 +27,7 @@ fn read_uppers<'t>(
 }
 
 /// The names that begin with a small letter at the front, with commas between, and the tokens after them. It takes memory.
-fn read_lowers<'t>(
-    alloc: Global,
-    tokens: Rest<'t>,
-) -> Result<(Items<Name>, Rest<'t>), ReadEnd>
+fn read_lowers<'t>(alloc: Global, tokens: Rest<'t>) -> Result<(Items<Name>, Rest<'t>), ReadEnd>
     ensures { Gives result (names_at lower_at (words tokens.entry)) }
 {
     let mut names = Items::new(alloc);

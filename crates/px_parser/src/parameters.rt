@@ -35,10 +35,7 @@ fn read_fn_type<'t>(alloc: Global, tokens: Rest<'t>) -> Result<(SFnType, Rest<'t
 
 /// What a parameter is, at the front, and the tokens after it. It takes memory.
 #[tactic(auto, unfolding(crate::specs::Reading::param_kind_at, crate::specs::Readers::choice, crate::specs::Readers::bind, crate::specs::Readers::pure))]
-fn read_param_kind<'t>(
-    alloc: Global,
-    tokens: Rest<'t>,
-) -> Result<(SParamKind, Rest<'t>), ReadEnd>
+fn read_param_kind<'t>(alloc: Global, tokens: Rest<'t>) -> Result<(SParamKind, Rest<'t>), ReadEnd>
     ensures { Gives result (param_kind_at (words tokens.entry)) }
 {
     if tokens.begins_key(Key::KFn) {

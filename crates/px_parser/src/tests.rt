@@ -23,11 +23,7 @@ fn fault_of(alloc: Global, text: &[u8]) -> Result<Option<u32>, AllocError>
     }
 }
 
-fn check_all(
-    rt: &impl Abort,
-    alloc: Global,
-    rows: &[(&str, Option<u32>)],
-) -> Result<(), Fail> {
+fn check_all(rt: &impl Abort, alloc: Global, rows: &[(&str, Option<u32>)]) -> Result<(), Fail> {
     for (place, row) in rows.iter().enumerate() {
         let text = row.0.as_bytes();
         assert!(rt; text.len() <= PROGRAM_BYTES);
@@ -89,7 +85,10 @@ fn faults_are_at_the_first_bad_token(rt: HostRuntime) -> Result<(), Fail> {
         ("def f(): B { g<D>(x, g(), C) }", None),
         ("def f(): B { g(x,) }", Some(17)),
         ("def f(): B { match x { C => x } }", None),
-        ("def f(): B { match x { C(a, b) => x, D => match y { E => z } } }", None),
+        (
+            "def f(): B { match x { C(a, b) => x, D => match y { E => z } } }",
+            None,
+        ),
         ("def f(): B { match x { } }", Some(23)),
         ("def f(): B { match x { C() => x } }", Some(25)),
         ("def f(): B { match x { C(A) => x } }", Some(25)),
@@ -115,7 +114,13 @@ fn faults_are_at_the_first_bad_token(rt: HostRuntime) -> Result<(), Fail> {
 }
 
 /// `data Nat { Z, S(Nat) }`, and a definition whose body is `Z` inside so many parts that these bytes open.
-fn nested(alloc: Global, open: &str, depth: usize, inner: &str, close: &str) -> Result<String, AllocError> {
+fn nested(
+    alloc: Global,
+    open: &str,
+    depth: usize,
+    inner: &str,
+    close: &str,
+) -> Result<String, AllocError> {
     let mut text = format!(in alloc; "data Nat {{ Z, S(Nat) }}\ndef f(): Nat {{ ")?;
     for _ in 0..depth {
         text.push_str(open)?;
@@ -128,7 +133,15 @@ fn nested(alloc: Global, open: &str, depth: usize, inner: &str, close: &str) -> 
     Ok(text)
 }
 
-fn check_nested(rt: &impl Abort, alloc: Global, open: &str, depth: usize, inner: &str, close: &str, fault: Option<u32>) -> Result<(), Fail> {
+fn check_nested(
+    rt: &impl Abort,
+    alloc: Global,
+    open: &str,
+    depth: usize,
+    inner: &str,
+    close: &str,
+    fault: Option<u32>,
+) -> Result<(), Fail> {
     let text = nested(alloc, open, depth, inner, close)?;
     assert!(rt; text.len() <= PROGRAM_BYTES);
     let found = fault_of(alloc, text.as_str().as_bytes())?;
