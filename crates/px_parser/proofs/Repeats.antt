@@ -4,7 +4,7 @@ use Rattle.std.proofs.lemmas.List.{append-nil}
 use Rattle.px_parser.specs.Words.{Word}
 use Rattle.px_parser.specs.Phrases.{Phrase, IsDone, done, Each}
 use Rattle.px_parser.specs.Readers.{Reader, onward, each_of, each_at}
-use Rattle.px_parser.proofs.Right.{SameFirst, Taken, Broken, Right, Both, Equal, Example, read, one_result, onward_ok, onward_err, decided}
+use Rattle.px_parser.proofs.Right.{SameFirst, Taken, Broken, Right, Both, Equal, Example, read, one_result, onward_ok, onward_err, taken_same, decided}
 
 onward_same : {A B : Type 0} (r : Result A ℕ) (f g : A → Result B ℕ) → ((x : A) → r ≡ Ok x → f x ≡ g x) → onward r f ≡ onward r g
 onward_same (Ok x) f g same = same x refl
@@ -107,11 +107,11 @@ module _ {T : Type 0} {Mid After : List Word → List Word → Type 0} {EndsItem
             let stepped = (rw holds at (sym (each_step test item shrinks empty s) ∙ e)) in
             let b = onward_ok (item s) _ (xs, rest) stepped in
             let c = onward_ok (each_at test item b.value.1) _ (xs, rest) b.second in
-            let q : Equal (b.value.0 ∷ c.value.0) xs c.value.1 rest = one_result _ xs c.value.1 rest c.second in
+            let q : Equal (b.value.0 ∷ c.value.0) xs c.value.1 rest = one_result (b.value.0 ∷ c.value.0) xs c.value.1 rest c.second in
             let shorter : length b.value.1 < length s = shrinks s b.value.1 b.value.0 holds b.first in
             let others : Taken Mid After (Each A) (each_at test item) b.value.1 c.value.1 c.value.0 = each_sound n b.value.1 c.value.1 c.value.0 (omega arith) c.first in
             let all : Taken Mid After (Each A) (each_at test item) s c.value.1 (b.value.0 ∷ c.value.0) = taken_more s b.value.1 c.value.1 b.value.0 c.value.0 (right.sound s b.value.1 b.value.0 b.first) others in
-            subst (λ ys. Taken Mid After (Each A) (each_at test item) s rest ys) q.value (subst (λ r. Taken Mid After (Each A) (each_at test item) s r (b.value.0 ∷ c.value.0)) q.rest all)
+            taken_same s c.value.1 rest (b.value.0 ∷ c.value.0) xs q all
       ]
 
   broken_here : (s : List Word) (left : ℕ) → test s ≡ true → Broken Mid A item s left → Broken Mid (Each A) (each_at test item) s left

@@ -88,6 +88,9 @@ same_left A m n e = cc
 pub one_result : {A : Type 0} (a b : A) (r s : List Word) → read a r ≡ read b s → Equal a b r s
 one_result {A} a b r s e = let q : (a, r) ≡ (b, s) = cc in record { value = ap (λ (z : A × List Word). z.0) q; rest = ap (λ (z : A × List Word). z.1) q }
 
+pub taken_same : {T : Type 0} {Before After : List Word → List Word → Type 0} {A : List Word → T → Type 0} {p : List Word → Result (T × List Word) ℕ} (s r t : List Word) (x y : T) → Equal x y r t → Taken Before After A p s r x → Taken Before After A p s t y
+taken_same {T} {Before} {After} {A} {p} s r t x y same taken = subst (λ z. Taken Before After A p s t z) same.value (subst (λ q. Taken Before After A p s q x) same.rest taken)
+
 pub right_done : {T : Type 0} {Same : List Word → List Word → Type 0} {Ends : List Word → Type 0} (value : T) → Right Same Same Ends (IsDone value) (pure value)
 unfolding pure
 right_done {T} {Same} {Ends} value = record {

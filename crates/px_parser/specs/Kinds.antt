@@ -8,6 +8,7 @@ use Rattle.px_lexer.specs.declared.token.TokenKind.{TokenKind}
 use Rattle.px_lexer.specs.declared.token.TokenKind.TheVariants as kinds
 use Rattle.px_parser.specs.Words.{Word}
 
+-- each mark's own number
 abbrev pub mark_number : Mark → ℕ
 mark_number BraceL = 0
 mark_number BraceR = 1
@@ -21,6 +22,7 @@ mark_number Equal = 8
 mark_number Arrow = 9
 mark_number FatArrow = 10
 
+-- each reserved word's own number
 abbrev pub key_number : Key → ℕ
 key_number KData = 0
 key_number KDef = 1

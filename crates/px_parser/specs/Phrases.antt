@@ -23,6 +23,7 @@ pub record IsDone {T : Type 0} (result : T) (words : List Word) (value : T) : Ty
   pub none : words ≡ []
   pub same : value ≡ result
 
+-- no words, which stand for this value
 abbrev pub done : {T : Type 0} → T → Phrase T
 done result = IsDone result
 
@@ -36,6 +37,7 @@ pub record IsSequence {S T : Type 0} (A : List Word → S → Type 0) (B : S →
   pub whole : words ≡ front ++ back
 
 infixl 10 ◌>>=◌
+-- first a phrase, and then the phrase that follows its value
 abbrev pub ◌>>=◌ : {S T : Type 0} → Phrase S → (S → Phrase T) → Phrase T
 A >>= B = IsSequence A B
 
@@ -88,21 +90,27 @@ pub record IsNumber (word : Word) (literal : SExpr) : Type 0 where
   pub kind : word.kind ≡ kinds.Number
   pub same : literal ≡ record { at = word.at; kind = expr_kinds.Number word.number }
 
+-- this mark
 abbrev pub mark : Mark → Phrase (Unit {0})
 mark m = IsWord (IsMark m)
 
+-- this reserved word, with its place
 abbrev pub key : Key → Phrase ℕ
 key k = IsWord (IsKey k)
 
+-- a name that begins with a small letter
 abbrev pub lower : Phrase Name
 lower = IsWord IsLower
 
+-- a name that begins with a capital letter
 abbrev pub upper : Phrase Name
 upper = IsWord IsUpper
 
+-- a property's word
 abbrev pub property : Phrase RawProp
 property = IsWord IsProperty
 
+-- a number
 abbrev pub number : Phrase SExpr
 number = IsWord IsNumber
 

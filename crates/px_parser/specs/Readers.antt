@@ -25,6 +25,7 @@ unfoldable pub bind : {S T : Type 0} → Reader S → (S → Reader T) → Reade
 bind p k words = onward (p words) (λ x. k x.0 x.1)
 
 infixl 10 ◌>>=◌
+-- first the one, and then what follows its value
 abbrev pub ◌>>=◌ : {S T : Type 0} → Reader S → (S → Reader T) → Reader T
 p >>= k = bind p k
 

@@ -37,43 +37,56 @@ abbrev pub where_true : {T : Type 0} → Bool → T → Option T
 where_true true value = Some value
 where_true false value = None
 
+-- the word is this mark
 abbrev pub mark_value : Mark → Word → Option (Unit {0})
 mark_value m word = where_true (is_mark m word.kind) tt
 
+-- the place of the word, where it is this reserved word
 abbrev pub key_value : Key → Word → Option ℕ
 key_value k word = where_true (is_key k word.kind) word.at
 
+-- the name, where the word begins with a small letter
 abbrev pub lower_value : Word → Option Name
 lower_value word = where_true (is_lower word.kind) (record { at = word.at; text = word.text })
 
+-- the name, where the word begins with a capital letter
 abbrev pub upper_value : Word → Option Name
 upper_value word = where_true (is_upper word.kind) (record { at = word.at; text = word.text })
 
+-- the property of this kind, at this place
 abbrev pub property_of : TokenKind → ℕ → Option RawProp
 property_of (kinds.Property prop) at = Some (record { at = at; prop = prop })
 property_of _ at = None
 
+-- the property, where the word is one
 abbrev pub property_value : Word → Option RawProp
 property_value word = property_of word.kind word.at
 
+-- the literal, where the word is a number
 abbrev pub number_value : Word → Option SExpr
 number_value word = where_true (is_number word.kind) (record { at = word.at; kind = expr_kinds.Number word.number })
 
+-- reads this mark
 abbrev pub mark_at : Mark → Reader (Unit {0})
 mark_at m = word_at (mark_value m)
 
+-- reads this reserved word
 abbrev pub key_at : Key → Reader ℕ
 key_at k = word_at (key_value k)
 
+-- reads a name that begins with a small letter
 abbrev pub lower_at : Reader Name
 lower_at = word_at lower_value
 
+-- reads a name that begins with a capital letter
 abbrev pub upper_at : Reader Name
 upper_at = word_at upper_value
 
+-- reads a property
 abbrev pub property_at : Reader RawProp
 property_at = word_at property_value
 
+-- reads a number
 abbrev pub number_at : Reader SExpr
 number_at = word_at number_value
 
@@ -90,6 +103,7 @@ list_while test separator item = do
 abbrev pub list_at : {T : Type 0} → Mark → Reader T → Reader (List T)
 list_at separator item = list_while (fronts (is_mark separator)) separator item
 
+-- reads what stands between two marks
 unfoldable pub between_at : {T : Type 0} → Mark → Reader T → Mark → Reader T
 between_at opening p closing = do
   _ ← mark_at opening
@@ -105,6 +119,7 @@ opened_at opening p closing = choice (fronts (is_mark opening)) (between_at open
 unfoldable pub inside : {T : Type 0} → ℕ → Reader T → Reader T
 inside room p = cond (room == 0) fail p
 
+-- reads type arguments around such types
 abbrev pub type_arguments_with : ℕ → Reader SType → Reader (List SType)
 type_arguments_with room inner = choice (fronts (is_mark Less)) (inside room (between_at Less (list_at Comma inner) Greater)) (pure [])
 
@@ -115,22 +130,28 @@ type_with room inner = do
   args ← type_arguments_with room inner
   pure (type_of name args)
 
+-- reads a type
 unfoldable pub type_at : ℕ → Reader SType
 type_at zero = fail
 type_at (suc room) = type_with room (type_at room)
 
+-- reads types
 unfoldable pub types_at : ℕ → Reader (List SType)
 types_at room = list_at Comma (type_at room)
 
+-- reads type arguments
 unfoldable pub type_arguments_at : ℕ → Reader (List SType)
 type_arguments_at room = type_arguments_with room (type_at room)
 
+-- reads names
 unfoldable pub names_at : Reader Name → Reader (List Name)
 names_at name = list_at Comma name
 
+-- reads type parameters
 unfoldable pub type_parameters_at : Reader (List Name)
 type_parameters_at = opened_at Less (names_at upper_at) Greater
 
+-- reads a pattern's variables
 unfoldable pub pattern_variables_at : Reader (List Name)
 pattern_variables_at = opened_at ParenL (names_at lower_at) ParenR
 
@@ -138,15 +159,18 @@ pattern_variables_at = opened_at ParenL (names_at lower_at) ParenR
 unfoldable pub con_fields_at : Reader (List SType)
 con_fields_at = opened_at ParenL (types_at NESTING) ParenR
 
+-- reads a constructor
 unfoldable pub con_at : Reader SCon
 con_at = do
   name ← upper_at
   fields ← con_fields_at
   pure (record { name = name; fields = fields })
 
+-- reads constructors
 unfoldable pub cons_at : Reader (List SCon)
 cons_at = list_at Comma con_at
 
+-- reads a datatype
 unfoldable pub data_at : Reader SData
 data_at = do
   at ← key_at KData
@@ -155,6 +179,7 @@ data_at = do
   cons ← between_at BraceL cons_at BraceR
   pure (record { at = at; name = name; tparams = tparams; cons = cons })
 
+-- reads properties
 unfoldable pub properties_at : Reader (List RawProp)
 properties_at = list_at Comma property_at
 
@@ -179,6 +204,7 @@ param_with_at = choice (fronts (is_key KWith)) (do
   _ ← key_at KWith
   param_properties_at) (pure [])
 
+-- reads a function type
 unfoldable pub fn_type_at : Reader SFnType
 fn_type_at = do
   at ← key_at KFn
@@ -188,6 +214,7 @@ fn_type_at = do
   props ← param_with_at
   pure (record { at = at; params = params; result = result; props = props })
 
+-- reads what a parameter is
 unfoldable pub param_kind_at : Reader SParamKind
 param_kind_at = choice (fronts (is_key KFn)) (do
   function ← fn_type_at
@@ -195,6 +222,7 @@ param_kind_at = choice (fronts (is_key KFn)) (do
     value ← type_at NESTING
     pure (param_kinds.Value value))
 
+-- reads a parameter
 unfoldable pub param_at : Reader SParam
 param_at = do
   name ← lower_at
@@ -206,9 +234,11 @@ param_at = do
 unfoldable pub up_to : {T : Type 0} → Mark → Reader (List T) → Reader (List T)
 up_to closing items = choice (fronts (is_mark closing)) (pure []) items
 
+-- reads parameters
 unfoldable pub param_list_at : Reader (List SParam)
 param_list_at = list_at Comma param_at
 
+-- reads parameters in parentheses
 unfoldable pub params_at : Reader (List SParam)
 params_at = between_at ParenL (up_to ParenR param_list_at) ParenR
 
@@ -216,6 +246,7 @@ params_at = between_at ParenL (up_to ParenR param_list_at) ParenR
 unfoldable pub fields_with : ℕ → Reader SExpr → Reader (List SExpr)
 fields_with room inner = choice (fronts (is_mark ParenL)) (inside room (between_at ParenL (list_at Comma inner) ParenR)) (pure [])
 
+-- reads a construction
 unfoldable pub upper_expr_with : Reader (List SType) → Reader (List SExpr) → Reader SExpr
 upper_expr_with types fields = do
   name ← upper_at
@@ -223,11 +254,13 @@ upper_expr_with types fields = do
   fields ← fields
   pure (record { at = name.at; kind = expr_kinds.Upper name types fields })
 
+-- reads arguments
 unfoldable pub arguments_with : Reader SExpr → Reader (Option (List SExpr))
 arguments_with inner = choice (fronts (is_mark ParenL)) (do
   args ← between_at ParenL (up_to ParenR (list_at Comma inner)) ParenR
   pure (Some args)) (pure None)
 
+-- reads a variable or a call
 unfoldable pub lower_expr_with : Reader (List SType) → Reader (Option (List SExpr)) → Reader SExpr
 lower_expr_with types args = do
   name ← lower_at
@@ -235,6 +268,7 @@ lower_expr_with types args = do
   args ← args
   pure (record { at = name.at; kind = expr_kinds.Lower name types args })
 
+-- reads an arm
 unfoldable pub arm_with : Reader SExpr → Reader SArm
 arm_with inner = do
   name ← upper_at
@@ -243,6 +277,7 @@ arm_with inner = do
   body ← inner
   pure (record { name = name; vars = vars; body = body })
 
+-- reads a match
 unfoldable pub match_with : Reader SExpr → Reader (List SArm) → Reader SExpr
 match_with inner arms = do
   at ← key_at KMatch
@@ -254,34 +289,44 @@ match_with inner arms = do
 unfoldable pub expr_with : ℕ → Reader SExpr → Reader SExpr
 expr_with room inner = choice (fronts is_number) number_at (choice (fronts is_upper) (upper_expr_with (type_arguments_at room) (fields_with room inner)) (choice (fronts is_lower) (lower_expr_with (type_arguments_at room) (arguments_with inner)) (inside room (match_with inner (list_at Comma (arm_with inner))))))
 
+-- reads an expression
 unfoldable pub expr_at : ℕ → Reader SExpr
 expr_at zero = fail
 expr_at (suc room) = expr_with room (expr_at room)
 
+-- reads expressions
 unfoldable pub exprs_at : ℕ → Reader (List SExpr)
 exprs_at room = list_at Comma (expr_at room)
 
+-- reads fields
 unfoldable pub fields_at : ℕ → Reader (List SExpr)
 fields_at room = fields_with room (expr_at room)
 
+-- reads arguments
 unfoldable pub arguments_at : ℕ → Reader (Option (List SExpr))
 arguments_at room = arguments_with (expr_at room)
 
+-- reads a construction
 unfoldable pub upper_expr_at : ℕ → Reader SExpr
 upper_expr_at room = upper_expr_with (type_arguments_at room) (fields_at room)
 
+-- reads a variable or a call
 unfoldable pub lower_expr_at : ℕ → Reader SExpr
 lower_expr_at room = lower_expr_with (type_arguments_at room) (arguments_at room)
 
+-- reads an arm
 unfoldable pub arm_at : ℕ → Reader SArm
 arm_at room = arm_with (expr_at room)
 
+-- reads arms
 unfoldable pub arms_at : ℕ → Reader (List SArm)
 arms_at room = list_at Comma (arm_at room)
 
+-- reads a match
 unfoldable pub match_at : ℕ → Reader SExpr
 match_at room = inside room (match_with (expr_at room) (arms_at room))
 
+-- reads a definition
 unfoldable pub definition_at : Reader SDef
 definition_at = do
   at ← key_at KDef
@@ -294,6 +339,7 @@ definition_at = do
   body ← between_at BraceL (expr_at NESTING) BraceR
   pure (record { at = at; name = name; tparams = tparams; params = params; result = result; props = props; body = body })
 
+-- reads a claim
 unfoldable pub claim_at : Reader SClaim
 claim_at = do
   at ← key_at KClaim
@@ -302,6 +348,7 @@ claim_at = do
   props ← properties_at
   pure (record { at = at; name = name; props = props })
 
+-- reads an equation
 unfoldable pub equation_at : Reader SEquation
 equation_at = do
   left ← expr_at NESTING
@@ -309,9 +356,11 @@ equation_at = do
   right ← expr_at NESTING
   pure (record { left = left; right = right })
 
+-- reads equations
 unfoldable pub equations_at : Reader (List SEquation)
 equations_at = list_at FatArrow equation_at
 
+-- reads a lemma
 unfoldable pub lemma_at : Reader SLemma
 lemma_at = do
   at ← key_at KLemma
@@ -322,12 +371,14 @@ lemma_at = do
   equations ← equations_at
   pure (record { at = at; name = name; tparams = tparams; params = params; equations = equations })
 
+-- reads a function
 unfoldable pub function_at : Reader SFun
 function_at = do
   name ← lower_at
   args ← type_arguments_at NESTING
   pure (record { name = name; args = args })
 
+-- reads functions
 unfoldable pub functions_at : Reader (List SFun)
 functions_at = list_at Comma function_at
 
@@ -335,6 +386,7 @@ functions_at = list_at Comma function_at
 unfoldable pub merge_functions_at : Reader (List SFun)
 merge_functions_at = opened_at ParenL functions_at ParenR
 
+-- reads a replica
 unfoldable pub replica_at : Reader SReplica
 replica_at = do
   at ← key_at KReplica
@@ -348,6 +400,7 @@ replica_at = do
   funs ← merge_functions_at
   pure (record { at = at; name = name; state = state; from = from; merge = merge; funs = funs })
 
+-- reads a declaration
 unfoldable pub item_at : Reader Item
 item_at = choice (fronts (is_key KData)) (do
   declaration ← data_at
@@ -366,5 +419,6 @@ unfoldable pub some_word : List Word → Bool
 some_word [] = false
 some_word (word ∷ rest) = true
 
+-- reads declarations, to the end
 unfoldable pub items_at : Reader (List Item)
 items_at = each_at some_word item_at
