@@ -1,11 +1,11 @@
 -- A comma and a property.
-use Rattle.std.proofs.Common.{◌≡◌, ℕ, Bool, true, false, ◌&&◌, List, [], ◌∷◌, length, Ok, Err, refl, sym, ap, ◌∙◌}
+use Rattle.std.proofs.Common.{◌≡◌, Bool, true, false, List, [], ◌∷◌, length, Ok, refl, sym, ◌∙◌}
 use Rattle.px_lexer.specs.declared.token.Mark.TheVariants.{Comma}
 use Rattle.px_parser.specs.Words.{Word}
 use Rattle.px_parser.specs.Kinds.{is_mark, is_property, fronts}
 use Rattle.px_parser.specs.Readers.{found, word_at}
 use Rattle.px_parser.specs.Reading.{where_true, mark_at, comma_property}
-use Rattle.px_parser.proofs.Right.{Equal, one_result, read}
+use Rattle.px_parser.proofs.Right.{one_result, read}
 
 after_comma : (word : Word) (ws rest : List Word) → is_mark Comma word.kind ≡ true → mark_at Comma (word ∷ ws) ≡ Ok (tt, rest) → ws ≡ rest
 unfolding word_at

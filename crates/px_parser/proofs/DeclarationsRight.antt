@@ -1,19 +1,15 @@
 -- Declarations and programs are read.
-use Rattle.std.proofs.Common.{◌≡◌, ℕ, zero, suc, ◌+◌, ◌<◌, ◌≤◌, ◌==◌, ◌&&◌, length, Bool, true, false, cond, not, List, [], ◌∷◌, ◌++◌, Option, Some, None, Result, Ok, Err, refl, sym, ap, ◌∙◌, subst, append_assoc, length-append, arith}
+use Rattle.std.proofs.Common.{◌≡◌, ◌<◌, length, true, false, List, [], ◌∷◌, ◌++◌, refl, length-append, arith}
 use Rattle.px_terms.specs.declared.limits.TheConstants.{NESTING}
-use Rattle.px_terms.specs.declared.raw.RawProp.{RawProp}
 use Rattle.px_lexer.specs.declared.token.Key.{Key}
-use Rattle.px_lexer.specs.declared.token.Key.TheVariants.{KData, KDef, KClaim, KLemma, KReplica, KFrom, KBy, KMatch, KFn, KWith}
-use Rattle.px_lexer.specs.declared.token.Mark.{Mark}
-use Rattle.px_lexer.specs.declared.token.Mark.TheVariants.{BraceL, BraceR, ParenL, ParenR, Less, Greater, Comma, Colon, Equal, Arrow, FatArrow}
-use Rattle.px_lexer.specs.declared.token.TokenKind.{TokenKind}
+use Rattle.px_lexer.specs.declared.token.Key.TheVariants.{KData, KDef, KClaim, KLemma, KReplica, KFrom, KBy}
+use Rattle.px_lexer.specs.declared.token.Mark.TheVariants.{BraceL, BraceR, ParenL, ParenR, Less, Greater, Comma, Colon, Equal, FatArrow}
 use Rattle.px_lexer.specs.declared.token.TokenKind.TheVariants as kinds
 use Rattle.px_parser.specs.Words.{Word}
-use Rattle.px_parser.specs.Kinds.{is_mark, is_key, is_property, fronts}
-use Rattle.px_parser.specs.Phrases.{Phrase, IsDone, IsSequence, Either, one, other, Each, IsWord, IsKey, mark, key, upper, lower, property, list, between, optional, done}
-use Rattle.px_parser.specs.Readers.{Reader, bind, pure, fail, choice, each_at}
-use Rattle.px_parser.specs.Grammar.{type, type_arguments, type_parameters, con, data_declaration, properties, with_properties, params, definition, claim, equation, lemma, function, replica, item, expr}
-use Rattle.px_parser.specs.Reading.{list_at, list_while, between_at, opened_at, type_at, type_arguments_at, con_fields_at, con_at, cons_at, data_at, properties_at, definition_at, claim_at, equation_at, equations_at, lemma_at, function_at, functions_at, merge_functions_at, replica_at, item_at, items_at, some_word}
+use Rattle.px_parser.specs.Kinds.{is_mark, is_key, fronts}
+use Rattle.px_parser.specs.Phrases.{IsSequence, one, other, Each, upper, list, between, optional}
+use Rattle.px_parser.specs.Grammar.{type, type_parameters, con, data_declaration, definition, claim, equation, lemma, function, replica, item, expr}
+use Rattle.px_parser.specs.Reading.{con_fields_at, con_at, cons_at, data_at, definition_at, claim_at, equation_at, equations_at, lemma_at, function_at, functions_at, merge_functions_at, replica_at, item_at, items_at, some_word}
 use Rattle.px_parser.specs.declared.surface.Name.{Name}
 use Rattle.px_parser.specs.declared.surface.SData.{SData}
 use Rattle.px_parser.specs.declared.surface.SDef.{SDef}
@@ -21,13 +17,13 @@ use Rattle.px_parser.specs.declared.surface.SClaim.{SClaim}
 use Rattle.px_parser.specs.declared.surface.SLemma.{SLemma}
 use Rattle.px_parser.specs.declared.surface.SReplica.{SReplica}
 use Rattle.px_parser.specs.declared.surface.Item.{Item}
-use Rattle.px_parser.proofs.Right.{SameFirst, SameTwo, Right, right_done, right_bind, right_choice, right_ends}
-use Rattle.px_parser.proofs.Repeats.{right_each, Shrinks, each_stops, each_goes, each_breaks}
-use Rattle.px_parser.proofs.Tokens.{right_mark, right_key, right_upper, right_lower, right_property, is_key-same}
+use Rattle.px_parser.proofs.Right.{SameFirst, Right, right_done, right_bind, right_choice}
+use Rattle.px_parser.proofs.Repeats.{right_each, Shrinks}
+use Rattle.px_parser.proofs.Tokens.{right_mark, right_key, right_upper, right_lower, is_key-same}
 use Rattle.px_parser.proofs.Loops.{NoLonger, right_no_longer}
-use Rattle.px_parser.proofs.Joins.{Anything, Avoids, EndsList, fronts_same, begins, begins_with, begins_optional, begins_mark, begins_between, begins_list, right_list, right_between}
+use Rattle.px_parser.proofs.Joins.{Anything, Avoids, EndsList, fronts_same, begins, begins_with, begins_optional, begins_mark, begins_between, right_list, right_between}
 use Rattle.px_parser.proofs.TypesRight.{right_opened, right_type, right_types, right_arguments, right_type_parameters, EndsType}
-use Rattle.px_parser.proofs.ExpressionsRight.{right_expr, expr_avoids, EndsExpr}
+use Rattle.px_parser.proofs.ExpressionsRight.{right_expr, EndsExpr}
 use Rattle.px_parser.proofs.ParametersRight.{right_properties, right_with, right_params, params_front, begins_with_properties, EndsWith}
 
 right_con_fields : Right SameFirst SameFirst (Avoids (is_mark ParenL)) (optional [] (between ParenL (list Comma (type NESTING)) ParenR)) con_fields_at

@@ -1,5 +1,5 @@
 -- How an expression is read, by its first word.
-use Rattle.std.proofs.Common.{◌≡◌, ℕ, zero, suc, ◌-◌, Bool, true, false, List, [], ◌∷◌, length, Result, Ok, Err, refl, sym, ap, ◌∙◌, subst, arith}
+use Rattle.std.proofs.Common.{◌≡◌, ℕ, suc, ◌-◌, true, false, List, length, Err, refl, ap, ◌∙◌, arith}
 use Rattle.px_parser.specs.Words.{Word}
 use Rattle.px_parser.specs.Kinds.{is_number, is_upper, is_lower, fronts}
 use Rattle.px_parser.specs.Readers.{Reader, choice, fail}

@@ -1,25 +1,22 @@
 -- Expressions are read.
-use Rattle.std.proofs.Common.{◌≡◌, ℕ, zero, suc, ◌≤◌, ◌==◌, length, Bool, true, false, cond, not, List, [], ◌∷◌, ◌++◌, Option, Some, None, Result, Ok, Err, refl, sym, ap, ◌∙◌, subst, append_assoc}
-use Rattle.px_lexer.specs.declared.token.Key.TheVariants.{KData, KDef, KClaim, KLemma, KReplica, KFrom, KBy, KMatch, KFn, KWith}
-use Rattle.px_lexer.specs.declared.token.Mark.{Mark}
-use Rattle.px_lexer.specs.declared.token.Mark.TheVariants.{BraceL, BraceR, ParenL, ParenR, Less, Greater, Comma, Colon, Equal, Arrow, FatArrow}
+use Rattle.std.proofs.Common.{◌≡◌, ℕ, zero, suc, Bool, true, false, not, List, [], ◌∷◌, ◌++◌, Some, None, Result, refl, sym, ap, subst}
+use Rattle.px_lexer.specs.declared.token.Key.TheVariants.{KMatch}
+use Rattle.px_lexer.specs.declared.token.Mark.TheVariants.{BraceL, BraceR, ParenL, ParenR, Less, Comma, FatArrow}
 use Rattle.px_lexer.specs.declared.token.TokenKind.{TokenKind}
 use Rattle.px_lexer.specs.declared.token.TokenKind.TheVariants as kinds
 use Rattle.px_parser.specs.Words.{Word}
-use Rattle.px_parser.specs.Kinds.{is_mark, is_key, is_number, is_upper, is_lower, fronts}
-use Rattle.px_parser.specs.Phrases.{Phrase, IsDone, IsSequence, Either, one, other, IsWord, IsKey, IsUpper, IsLower, IsNumber, mark, key, upper, lower, number, list, between, optional, done}
+use Rattle.px_parser.specs.Kinds.{is_mark, is_number, is_upper, is_lower, fronts}
+use Rattle.px_parser.specs.Phrases.{Phrase, IsDone, IsSequence, Either, one, other, lower, number, list, between, optional}
 use Rattle.px_parser.specs.Readers.{Reader, bind, pure, fail, choice}
-use Rattle.px_parser.specs.Grammar.{type, type_arguments, upper_expr, lower_expr, arm, match_expr, expr}
-use Rattle.px_parser.specs.Reading.{list_at, list_while, between_at, opened_at, up_to, inside, type_arguments_at, pattern_variables_at, names_at, lower_at, upper_at, number_at, fields_with, upper_expr_with, arguments_with, lower_expr_with, arm_with, match_with, expr_with, expr_at, exprs_at, fields_at, arguments_at, upper_expr_at, lower_expr_at, arm_at, arms_at, match_at}
-use Rattle.px_parser.specs.declared.surface.Name.{Name}
+use Rattle.px_parser.specs.Grammar.{type_arguments, upper_expr, lower_expr, arm, match_expr, expr}
+use Rattle.px_parser.specs.Reading.{list_at, list_while, between_at, up_to, inside, pattern_variables_at, upper_at, fields_with, upper_expr_with, arguments_with, lower_expr_with, arm_with, match_with, expr_with, expr_at, fields_at, arguments_at, upper_expr_at, lower_expr_at, arm_at, arms_at, match_at}
 use Rattle.px_parser.specs.declared.surface.SType.{SType}
-use Rattle.px_parser.specs.declared.surface.SArm.{SArm}
 use Rattle.px_parser.specs.declared.surface.SExpr.{SExpr}
 use Rattle.px_parser.proofs.Right.{SameFirst, Right, right_done, right_bind, right_choice, right_other, right_ends, right_iff, right_flip, right_same, either_swap}
-use Rattle.px_parser.proofs.Tokens.{right_mark, right_key, right_upper, right_lower, right_number, is_mark-same, is_mark-true}
+use Rattle.px_parser.proofs.Tokens.{right_mark, right_key, right_upper, right_lower, right_number, is_mark-true}
 use Rattle.px_parser.proofs.Loops.{NoLonger, right_no_longer, word_stays, pure_stays, bind_stays}
 use Rattle.px_parser.proofs.Joins.{Anything, Avoids, EndsList, fronts_same, begins, begins_with, begins_optional, begins_mark, begins_between, begins_list, right_list, right_between}
-use Rattle.px_parser.proofs.TypesRight.{right_opened, right_arguments, right_lowers, inside_some, EndsType}
+use Rattle.px_parser.proofs.TypesRight.{right_opened, right_arguments, right_lowers, inside_some}
 
 abbrev pub EndsExpr : List Word → Type 0
 EndsExpr rest = Avoids (is_mark Less) rest × Avoids (is_mark ParenL) rest

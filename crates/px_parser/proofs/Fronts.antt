@@ -1,18 +1,11 @@
 -- What one-word readers find.
-use Rattle.std.proofs.Common.{◌≡◌, ◌≢◌, ℕ, Bool, true, false, List, [], ◌∷◌, length, Option, Some, None, Result, Ok, Err, refl, sym, ap, ◌∙◌, subst}
-use Rattle.px_lexer.specs.declared.token.Key.{Key}
-use Rattle.px_lexer.specs.declared.token.Key.TheVariants.{KData, KDef, KClaim, KLemma, KReplica, KFrom, KBy, KMatch, KFn, KWith}
-use Rattle.px_lexer.specs.declared.token.Mark.{Mark}
-use Rattle.px_lexer.specs.declared.token.Mark.TheVariants.{BraceL, BraceR, ParenL, ParenR, Less, Greater, Comma, Colon, Equal, Arrow, FatArrow}
-use Rattle.px_lexer.specs.declared.token.TokenKind.{TokenKind}
-use Rattle.px_lexer.specs.declared.token.TokenKind.TheVariants as kinds
+use Rattle.std.proofs.Common.{◌≡◌, ℕ, Bool, true, false, List, [], ◌∷◌, length, Option, Some, None, Result, Ok, Err, refl}
 use Rattle.px_parser.specs.Words.{Word}
-use Rattle.px_parser.specs.Kinds.{mark_number, key_number, is_mark, is_key, is_lower, is_upper, is_name, is_property, is_number}
 use Rattle.px_parser.specs.Readers.{word_at}
-use Rattle.px_parser.specs.Reading.{where_true, property_of}
+use Rattle.px_parser.specs.Reading.{where_true}
 use Rattle.px_parser.specs.Gives.{Fails}
 use Rattle.px_parser.specs.declared.read_end.ReadEnd.{ReadEnd}
-use Rattle.px_parser.specs.declared.read_end.ReadEnd.TheVariants.{Fault, NoMemory}
+use Rattle.px_parser.specs.declared.read_end.ReadEnd.TheVariants.{Fault}
 
 pub fails_at : {T : Type 0} (end : ReadEnd) (words : List Word) (read : Result T ℕ) → end ≡ Fault (length words) → read ≡ Err (length words) → Fails end read
 fails_at end words read e f = rw e f

@@ -1,16 +1,14 @@
 -- Lists, and phrases between marks, are read.
-use Rattle.std.proofs.Common.{◌≡◌, ℕ, zero, suc, ◌==◌, Bool, true, false, cond, not, List, [], ◌∷◌, ◌++◌, Option, Some, None, Result, Ok, Err, refl, sym, ap, ◌∙◌, subst, append_assoc}
-use Rattle.px_lexer.specs.declared.token.Key.{Key}
+use Rattle.std.proofs.Common.{◌≡◌, ℕ, Bool, true, false, List, [], ◌∷◌, ◌++◌, Result, refl, sym, ap, ◌∙◌, subst, append_assoc}
 use Rattle.px_lexer.specs.declared.token.Mark.{Mark}
-use Rattle.px_lexer.specs.declared.token.Mark.TheVariants.{Comma}
 use Rattle.px_lexer.specs.declared.token.TokenKind.{TokenKind}
 use Rattle.px_lexer.specs.declared.token.TokenKind.TheVariants as kinds
 use Rattle.px_parser.specs.Words.{Word}
-use Rattle.px_parser.specs.Kinds.{is_mark, is_key, fronts}
-use Rattle.px_parser.specs.Phrases.{Phrase, IsDone, IsSequence, Either, one, other, Each, none, more, IsWord, IsMark, IsKey, mark, list, between, optional}
-use Rattle.px_parser.specs.Readers.{bind, pure, choice, each_at}
-use Rattle.px_parser.specs.Reading.{mark_at, list_while, list_at, between_at, opened_at, inside}
-use Rattle.px_parser.proofs.Right.{SameFirst, SameTwo, Right, right_done, right_bind, right_choice, right_other}
+use Rattle.px_parser.specs.Kinds.{is_mark, fronts}
+use Rattle.px_parser.specs.Phrases.{IsDone, IsSequence, Either, one, other, Each, IsWord, IsMark, mark, list, between}
+use Rattle.px_parser.specs.Readers.{bind, each_at}
+use Rattle.px_parser.specs.Reading.{mark_at, list_while, list_at, between_at}
+use Rattle.px_parser.proofs.Right.{SameFirst, Right, right_done, right_bind}
 use Rattle.px_parser.proofs.Repeats.{right_each}
 use Rattle.px_parser.proofs.Tokens.{right_mark, is_mark-same}
 

@@ -1,15 +1,14 @@
 -- What a loop over the items of a list has read, and what is still to come.
-use Rattle.std.proofs.Common.{◌≡◌, ℕ, zero, suc, ◌+◌, ◌<◌, ◌≤◌, ◌⊎◌, Bool, true, false, cond, List, [], ◌∷◌, ◌++◌, length, Option, Some, None, Result, Ok, Err, refl, sym, ap, ◌∙◌, subst, inl, inr, append_assoc, arith, length-append}
+use Rattle.std.proofs.Common.{◌≡◌, ℕ, ◌<◌, ◌≤◌, Bool, true, false, List, [], ◌∷◌, ◌++◌, length, Option, Some, None, Result, Ok, Err, refl, sym, ap, append_assoc, arith, length-append}
 use Rattle.std.proofs.lemmas.List.{append-nil}
 use Rattle.px_lexer.specs.declared.token.Mark.{Mark}
 use Rattle.px_parser.specs.Words.{Word}
-use Rattle.px_parser.specs.Kinds.{is_mark, fronts}
 use Rattle.px_parser.specs.Readers.{Reader, onward, bind, pure, found, word_at, each_at}
 use Rattle.px_parser.specs.Reading.{mark_at, list_while}
 use Rattle.px_parser.specs.Gives.{Fails}
 use Rattle.px_parser.specs.declared.read_end.ReadEnd.{ReadEnd}
 use Rattle.px_parser.specs.declared.read_end.ReadEnd.TheVariants.{Fault, NoMemory}
-use Rattle.px_parser.proofs.Right.{Both, Equal, onward_ok, one_result, read, Right}
+use Rattle.px_parser.proofs.Right.{onward_ok, one_result, read, Right}
 use Rattle.px_parser.proofs.Repeats.{Shrinks, each_stops, each_goes, each_breaks}
 
 -- no more words are left than there were

@@ -1,26 +1,24 @@
 -- Properties and parameters are read.
-use Rattle.std.proofs.Common.{◌≡◌, ℕ, zero, suc, ◌≤◌, ◌==◌, ◌&&◌, length, Bool, true, false, cond, not, List, [], ◌∷◌, ◌++◌, Option, Some, None, Result, Ok, Err, refl, sym, ap, ◌∙◌, subst, append_assoc, ◌⊎◌, inl, inr}
-use Rattle.px_terms.specs.declared.limits.TheConstants.{NESTING}
+use Rattle.std.proofs.Common.{◌≡◌, ℕ, suc, Bool, true, false, not, List, [], ◌∷◌, ◌++◌, refl, sym, ap, subst, ◌⊎◌, inl, inr}
 use Rattle.px_terms.specs.declared.raw.RawProp.{RawProp}
-use Rattle.px_lexer.specs.declared.token.Key.TheVariants.{KData, KDef, KClaim, KLemma, KReplica, KFrom, KBy, KMatch, KFn, KWith}
-use Rattle.px_lexer.specs.declared.token.Mark.{Mark}
-use Rattle.px_lexer.specs.declared.token.Mark.TheVariants.{BraceL, BraceR, ParenL, ParenR, Less, Greater, Comma, Colon, Equal, Arrow, FatArrow}
+use Rattle.px_lexer.specs.declared.token.Key.TheVariants.{KFn, KWith}
+use Rattle.px_lexer.specs.declared.token.Mark.TheVariants.{ParenL, ParenR, Less, Comma, Colon, Arrow}
 use Rattle.px_lexer.specs.declared.token.TokenKind.{TokenKind}
 use Rattle.px_lexer.specs.declared.token.TokenKind.TheVariants as kinds
 use Rattle.px_parser.specs.Words.{Word}
 use Rattle.px_parser.specs.Kinds.{is_mark, is_key, is_property, fronts}
-use Rattle.px_parser.specs.Phrases.{Phrase, IsDone, IsSequence, Either, one, other, IsWord, IsProperty, mark, key, upper, lower, property, list, between, optional, done}
-use Rattle.px_parser.specs.Readers.{Reader, bind, pure, fail, choice}
+use Rattle.px_parser.specs.Phrases.{IsSequence, property, list, optional}
+use Rattle.px_parser.specs.Readers.{pure}
 use Rattle.px_parser.specs.Grammar.{type, properties, with_properties, fn_type, param_kind, param, params}
-use Rattle.px_parser.specs.Reading.{list_at, list_while, between_at, up_to, mark_at, property_at, properties_at, with_at, comma_property, param_properties_at, param_with_at, fn_type_at, param_kind_at, param_at, param_list_at, params_at, type_at}
+use Rattle.px_parser.specs.Reading.{up_to, properties_at, with_at, comma_property, param_properties_at, param_with_at, fn_type_at, param_kind_at, param_at, param_list_at, params_at}
 use Rattle.px_parser.specs.declared.surface.SType.{SType}
 use Rattle.px_parser.specs.declared.surface.SParam.{SParam}
 use Rattle.px_parser.specs.declared.surface.SFnType.{SFnType}
 use Rattle.px_parser.proofs.Right.{SameFirst, SameTwo, Right, right_done, right_bind, right_choice, right_ends, right_flip, right_before, two_first, decided}
-use Rattle.px_parser.proofs.Tokens.{right_mark, right_key, right_upper, right_lower, right_property, right_comma, is_mark-same, is_mark-true}
+use Rattle.px_parser.proofs.Tokens.{right_mark, right_key, right_lower, right_property, right_comma, is_mark-true}
 use Rattle.px_parser.proofs.Loops.{NoLonger, right_no_longer}
-use Rattle.px_parser.proofs.Joins.{Anything, Avoids, EndsList, fronts_same, begins, begins_with, begins_optional, begins_mark, begins_between, begins_list, right_list, right_list_while, right_between}
-use Rattle.px_parser.proofs.TypesRight.{right_type, right_types, EndsType}
+use Rattle.px_parser.proofs.Joins.{Anything, Avoids, EndsList, fronts_same, begins, begins_with, begins_optional, begins_between, begins_list, right_list, right_list_while, right_between}
+use Rattle.px_parser.proofs.TypesRight.{right_type, right_types}
 use Rattle.px_parser.proofs.CommaProperty.{nothing_no_comma}
 
 pub right_properties : Right SameFirst SameFirst (EndsList Comma Anything) properties properties_at

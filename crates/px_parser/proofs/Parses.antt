@@ -1,8 +1,8 @@
 -- From what reading finds to what the answer says.
-use Rattle.std.proofs.Common.{◌≡◌, ℕ, suc, ◌-◌, ◌≤◌, ◌⊎◌, ◌+◌, length, List, [], ◌∷◌, map, Result, Ok, Err, IfOk, IfErr, refl, sym, ap, ◌∙◌, subst, inl, inr, arith}
+use Rattle.std.proofs.Common.{◌≡◌, ℕ, suc, ◌-◌, ◌≤◌, length, List, [], ◌∷◌, Result, Ok, Err, IfOk, IfErr, refl, sym, ap, ◌∙◌, inl, inr, arith}
 use Rattle.px_lexer.specs.declared.token.Token.{Token}
 use Rattle.px_parser.specs.Words.{Word, words_of}
-use Rattle.px_parser.specs.Faults.{IsFaultAt, IsProgramOf, IsFaultOf, place_of, IsUnlessNoMemory, IsEnd}
+use Rattle.px_parser.specs.Faults.{IsProgramOf, IsFaultOf, place_of, IsUnlessNoMemory, IsEnd}
 use Rattle.px_parser.specs.Reading.{items_at}
 use Rattle.px_parser.specs.declared.surface.Item.{Item}
 use Rattle.px_parser.specs.declared.surface.Surface.{Surface}

@@ -1,16 +1,16 @@
 -- From the reader of declarations to programs and faults.
-use Rattle.std.proofs.Common.{◌≡◌, ℕ, zero, suc, ◌+◌, ◌-◌, ◌<◌, ◌≤◌, ◌⊎◌, length, Bool, true, false, List, [], ◌∷◌, ◌++◌, take, drop, Option, Some, None, Result, Ok, Err, IsTrue, refl, sym, ap, ◌∙◌, subst, append_assoc, length-append, inl, inr, arith}
-use Rattle.std.proofs.Math.Seq.{take-append_seam, take-append-add, take-length}
+use Rattle.std.proofs.Common.{◌≡◌, ℕ, suc, ◌+◌, ◌-◌, ◌≤◌, length, List, [], ◌∷◌, ◌++◌, take, drop, Ok, Err, refl, sym, ap, ◌∙◌, subst, append_assoc, length-append, inl, inr, arith}
+use Rattle.std.proofs.Math.Seq.{take-append_seam, take-append-add}
 use Rattle.std.proofs.lemmas.List.{append-nil, take-append-drop, take-append-le, length-take-le}
 use Rattle.std.proofs.lemmas.Bool.{cases_order}
 use Rattle.px_parser.specs.Words.{Word}
-use Rattle.px_parser.specs.Phrases.{IsDone, IsSequence, Each}
+use Rattle.px_parser.specs.Phrases.{Each}
 use Rattle.px_parser.specs.Grammar.{program, item}
 use Rattle.px_parser.specs.Faults.{Begins, IsFaultAt, word, end}
 use Rattle.px_parser.specs.Reading.{items_at}
 use Rattle.px_parser.specs.declared.surface.Item.{Item}
 use Rattle.px_parser.specs.declared.surface.Surface.{Surface}
-use Rattle.px_parser.proofs.Right.{SameFirst, Taken, Broken, Right, Equal, one_result, read, no_read}
+use Rattle.px_parser.proofs.Right.{SameFirst, Taken, Broken, one_result, read, no_read}
 use Rattle.px_parser.proofs.DeclarationsRight.{right_items}
 
 -- the program of these declarations

@@ -1,10 +1,10 @@
 -- A reader of items that come again and again reads them all.
-use Rattle.std.proofs.Common.{◌≡◌, ℕ, zero, suc, ◌+◌, ◌<◌, ◌≤◌, ◌⊎◌, Bool, true, false, cond, List, [], ◌∷◌, ◌++◌, length, Option, Some, None, Result, Ok, Err, refl, sym, ap, ◌∙◌, subst, inl, inr, append_assoc, arith, length-append}
+use Rattle.std.proofs.Common.{◌≡◌, ℕ, zero, suc, ◌<◌, ◌≤◌, Bool, true, false, cond, List, [], ◌∷◌, ◌++◌, length, Result, Ok, Err, refl, sym, ap, ◌∙◌, subst, inl, inr, append_assoc, arith, length-append}
 use Rattle.std.proofs.lemmas.List.{append-nil}
 use Rattle.px_parser.specs.Words.{Word}
-use Rattle.px_parser.specs.Phrases.{Phrase, IsDone, done, Each}
-use Rattle.px_parser.specs.Readers.{Reader, onward, each_of, each_at}
-use Rattle.px_parser.proofs.Right.{SameFirst, Taken, Broken, Right, Both, Equal, Example, read, one_result, onward_ok, onward_err, taken_same, decided}
+use Rattle.px_parser.specs.Phrases.{Each}
+use Rattle.px_parser.specs.Readers.{onward, each_of, each_at}
+use Rattle.px_parser.proofs.Right.{SameFirst, Taken, Broken, Right, Equal, read, one_result, onward_ok, onward_err, taken_same, decided}
 
 onward_same : {A B : Type 0} (r : Result A ℕ) (f g : A → Result B ℕ) → ((x : A) → r ≡ Ok x → f x ≡ g x) → onward r f ≡ onward r g
 onward_same (Ok x) f g same = same x refl

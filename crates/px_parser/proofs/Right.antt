@@ -1,12 +1,10 @@
 -- A reader reads its phrase: what that means, and that it stays so where readers are joined.
-use Rattle.std.proofs.Common.{◌≡◌, ℕ, zero, suc, ◌<◌, ◌≤◌, ◌⊎◌, Bool, true, false, cond, not, List, [], ◌∷◌, ◌++◌, length, Option, Some, None, Result, Ok, Err, refl, sym, ap, ◌∙◌, subst, inl, inr, append_assoc, arith, length-append}
-use Rattle.std.proofs.lemmas.List.{append-nil}
-use Rattle.px_lexer.specs.declared.token.TokenKind.{TokenKind}
+use Rattle.std.proofs.Common.{◌≡◌, ℕ, ◌⊎◌, Bool, true, false, cond, not, List, [], ◌∷◌, ◌++◌, length, Option, Some, None, Result, Ok, Err, refl, sym, ap, ◌∙◌, subst, inl, inr, append_assoc}
 use Rattle.px_lexer.specs.declared.token.Mark.TheVariants as mark
 use Rattle.px_lexer.specs.declared.token.TokenKind.TheVariants as kinds
 use Rattle.px_parser.specs.Words.{Word}
-use Rattle.px_parser.specs.Phrases.{Phrase, IsDone, done, impossible, IsSequence, Either, one, other, Each, none, more, IsWord}
-use Rattle.px_parser.specs.Readers.{Reader, onward, pure, fail, bind, choice, found, word_at, each_of, each_at}
+use Rattle.px_parser.specs.Phrases.{IsDone, IsSequence, Either, one, other, IsWord}
+use Rattle.px_parser.specs.Readers.{onward, pure, fail, bind, choice, found, word_at}
 
 -- both are empty, or begin with one word
 abbrev pub SameFirst : List Word → List Word → Type 0

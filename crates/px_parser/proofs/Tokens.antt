@@ -1,5 +1,5 @@
 -- One-word readers read their words.
-use Rattle.std.proofs.Common.{◌≡◌, ℕ, ◌==◌, Bool, true, false, cond, List, [], ◌∷◌, Option, Some, None, Result, Ok, Err, refl, sym, ap, ◌∙◌, subst, eq-eqb, eqb-true}
+use Rattle.std.proofs.Common.{◌≡◌, ℕ, ◌==◌, Bool, true, false, cond, List, [], ◌∷◌, Some, None, refl, sym, ap, ◌∙◌, eq-eqb, eqb-true}
 use Rattle.px_terms.specs.declared.types.Prop.TheVariants.{Comm}
 use Rattle.px_terms.specs.declared.raw.RawProp.{RawProp}
 use Rattle.px_lexer.specs.declared.token.Key.{Key}
@@ -9,14 +9,13 @@ use Rattle.px_lexer.specs.declared.token.Mark.TheVariants.{BraceL, BraceR, Paren
 use Rattle.px_lexer.specs.declared.token.TokenKind.{TokenKind}
 use Rattle.px_lexer.specs.declared.token.TokenKind.TheVariants as kinds
 use Rattle.px_parser.specs.Words.{Word}
-use Rattle.px_parser.specs.Kinds.{mark_number, key_number, is_mark, is_key, is_lower, is_upper, is_name, is_property, is_number}
-use Rattle.px_parser.specs.Phrases.{IsWord, IsMark, IsKey, IsLower, IsUpper, IsProperty, IsNumber, mark, key, lower, upper, property, number}
-use Rattle.px_parser.specs.Readers.{word_at}
+use Rattle.px_parser.specs.Kinds.{mark_number, key_number, is_mark, is_key, is_lower, is_upper, is_number}
+use Rattle.px_parser.specs.Phrases.{IsMark, IsKey, IsLower, IsUpper, IsProperty, IsNumber, mark, key, lower, upper, property, number}
 use Rattle.px_parser.specs.Reading.{where_true, mark_value, key_value, lower_value, upper_value, property_of, property_value, number_value, mark_at, key_at, lower_at, upper_at, property_at, number_at}
 use Rattle.px_parser.specs.declared.surface.Name.{Name}
 use Rattle.px_parser.specs.declared.surface.SExpr.{SExpr}
 use Rattle.px_parser.specs.declared.surface.SExprKind.TheVariants as expr_kinds
-use Rattle.px_parser.proofs.Right.{SameFirst, SameTwo, Right, Finds, Spelled, right_word, right_word_by}
+use Rattle.px_parser.proofs.Right.{SameFirst, SameTwo, Right, Finds, right_word, right_word_by}
 
 mark_of : ℕ → Mark
 mark_of n = cond (n == 0) BraceL (cond (n == 1) BraceR (cond (n == 2) ParenL (cond (n == 3) ParenR (cond (n == 4) Less (cond (n == 5) Greater (cond (n == 6) Comma (cond (n == 7) Colon (cond (n == 8) Equal (cond (n == 9) Arrow FatArrow)))))))))

@@ -1,10 +1,9 @@
 -- How a type is read, part by part.
-use Rattle.std.proofs.Common.{◌≡◌, ℕ, zero, suc, ◌-◌, ◌<◌, ◌≤◌, Bool, true, false, cond, List, [], ◌∷◌, length, Result, Ok, Err, refl, sym, ap, ◌∙◌, subst, arith}
-use Rattle.px_lexer.specs.declared.token.Mark.TheVariants.{Comma}
+use Rattle.std.proofs.Common.{◌≡◌, ℕ, suc, ◌-◌, List, length, Ok, Err, refl, sym, subst, arith}
 use Rattle.px_parser.specs.Words.{Word}
 use Rattle.px_parser.specs.Grammar.{type_of}
 use Rattle.px_parser.specs.Readers.{onward, bind, pure, fail}
-use Rattle.px_parser.specs.Reading.{upper_at, type_with, type_at, type_arguments_at, types_at}
+use Rattle.px_parser.specs.Reading.{upper_at, type_at, type_arguments_at}
 use Rattle.px_parser.specs.Gives.{Fails}
 use Rattle.px_parser.specs.declared.surface.Name.{Name}
 use Rattle.px_parser.specs.declared.surface.SType.{SType}

@@ -1,24 +1,20 @@
 -- Types are read.
-use Rattle.std.proofs.Common.{◌≡◌, ℕ, zero, suc, ◌≤◌, ◌==◌, length, Bool, true, false, cond, not, List, [], ◌∷◌, ◌++◌, Option, Some, None, Result, Ok, Err, refl, sym, ap, ◌∙◌, subst, append_assoc}
+use Rattle.std.proofs.Common.{◌≡◌, ℕ, zero, suc, true, List, [], ◌∷◌, Result, refl, sym, subst}
 use Rattle.std.proofs.Math.Dec.{eqb-suc-zero}
-use Rattle.px_terms.specs.declared.limits.TheConstants.{NESTING}
-use Rattle.px_lexer.specs.declared.token.Key.TheVariants.{KData, KDef, KClaim, KLemma, KReplica, KFrom, KBy, KMatch, KFn, KWith}
 use Rattle.px_lexer.specs.declared.token.Mark.{Mark}
-use Rattle.px_lexer.specs.declared.token.Mark.TheVariants.{BraceL, BraceR, ParenL, ParenR, Less, Greater, Comma, Colon, Equal, Arrow, FatArrow}
-use Rattle.px_lexer.specs.declared.token.TokenKind.{TokenKind}
+use Rattle.px_lexer.specs.declared.token.Mark.TheVariants.{Less, Greater, Comma}
 use Rattle.px_lexer.specs.declared.token.TokenKind.TheVariants as kinds
 use Rattle.px_parser.specs.Words.{Word}
-use Rattle.px_parser.specs.Kinds.{is_mark, is_key, fronts}
-use Rattle.px_parser.specs.Phrases.{IsDone, IsSequence, Either, IsWord, IsUpper, IsLower, mark, upper, lower, list, between, optional}
-use Rattle.px_parser.specs.Readers.{Reader, bind, pure, fail, choice}
+use Rattle.px_parser.specs.Kinds.{is_mark, fronts}
+use Rattle.px_parser.specs.Phrases.{upper, lower, list, between, optional}
+use Rattle.px_parser.specs.Readers.{Reader, pure, fail, choice}
 use Rattle.px_parser.specs.Grammar.{type, type_of, type_arguments, type_parameters}
 use Rattle.px_parser.specs.Reading.{list_at, between_at, opened_at, inside, type_arguments_with, type_at, types_at, type_arguments_at, type_parameters_at, names_at, upper_at, lower_at}
-use Rattle.px_parser.specs.declared.surface.Name.{Name}
 use Rattle.px_parser.specs.declared.surface.SType.{SType}
-use Rattle.px_parser.proofs.Right.{SameFirst, SameTwo, Right, right_done, right_bind, right_choice, right_other}
+use Rattle.px_parser.proofs.Right.{SameFirst, Right, right_done, right_bind, right_choice, right_other}
 use Rattle.px_parser.proofs.Loops.{NoLonger, right_no_longer}
-use Rattle.px_parser.proofs.Tokens.{right_mark, right_upper, right_lower, is_mark-same}
-use Rattle.px_parser.proofs.Joins.{Anything, Avoids, EndsList, fronts_same, begins, begins_between, right_list, right_between}
+use Rattle.px_parser.proofs.Tokens.{right_upper, right_lower, is_mark-same}
+use Rattle.px_parser.proofs.Joins.{Anything, Avoids, EndsList, fronts_same, begins_between, right_list, right_between}
 
 -- what comes after an optional part that a mark opens
 pub right_opened : {T : Type 0} {EndsA : List Word → Type 0} {A : List Word → List T → Type 0} {p : List Word → Result (List T × List Word) ℕ} (opening closing : Mark) → Right SameFirst SameFirst EndsA A p → ((word : Word) (rest : List Word) → word.kind ≡ kinds.Mark closing → EndsA (word ∷ rest)) → Right SameFirst SameFirst (Avoids (is_mark opening)) (optional [] (between opening A closing)) (opened_at opening p closing)

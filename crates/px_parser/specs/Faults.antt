@@ -1,5 +1,5 @@
 -- The program of a text's tokens, and the fault of tokens that are no program.
-use Rattle.std.specs.Prelude.{◌≡◌, ℕ, ◌<◌, ◌+◌, ◌⊎◌, List, ◌++◌, length, take, slice_get, option_map, unwrap_or, Result, Ok, Err}
+use Rattle.std.specs.Prelude.{◌≡◌, ℕ, ◌<◌, ◌+◌, ◌⊎◌, List, ◌++◌, length, take, slice_get, option_map, unwrap_or, Result, Err}
 use Rattle.px_lexer.specs.declared.token.Token.{Token}
 use Rattle.px_parser.specs.Words.{Word, words_of}
 use Rattle.px_parser.specs.Grammar.{program}

@@ -1,5 +1,5 @@
 -- The grammar: each production, and the tree that its words are written for.
-use Rattle.std.specs.Prelude.{◌≡◌, ℕ, zero, suc, ◌-◌, List, [], ◌∷◌, Option, Some, None}
+use Rattle.std.specs.Prelude.{ℕ, zero, suc, ◌-◌, List, [], Some, None}
 use Rattle.px_terms.specs.declared.limits.TheConstants.{NESTING}
 use Rattle.px_terms.specs.declared.raw.RawProp.{RawProp}
 use Rattle.px_lexer.specs.declared.token.Key.TheVariants.{KData, KDef, KClaim, KLemma, KReplica, KFrom, KBy, KMatch, KFn, KWith}
@@ -21,7 +21,6 @@ use Rattle.px_parser.specs.declared.surface.SEquation.{SEquation}
 use Rattle.px_parser.specs.declared.surface.SReplica.{SReplica}
 use Rattle.px_parser.specs.declared.surface.SFun.{SFun}
 use Rattle.px_parser.specs.declared.surface.SExpr.{SExpr}
-use Rattle.px_parser.specs.declared.surface.SExprKind.{SExprKind}
 use Rattle.px_parser.specs.declared.surface.SExprKind.TheVariants as expr_kinds
 use Rattle.px_parser.specs.declared.surface.SArm.{SArm}
 use Rattle.px_parser.specs.declared.surface.Item.{Item}

@@ -1,6 +1,5 @@
 -- Ways to join phrases. A phrase says which lists of words are written for which value.
 use Rattle.std.specs.Prelude.{◌≡◌, ℕ, List, [], ◌∷◌, ◌++◌}
-use Rattle.px_terms.specs.declared.types.Prop.{Prop}
 use Rattle.px_terms.specs.declared.raw.RawProp.{RawProp}
 use Rattle.px_lexer.specs.declared.token.Key.{Key}
 use Rattle.px_lexer.specs.declared.token.Mark.{Mark}

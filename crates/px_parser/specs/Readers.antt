@@ -1,6 +1,6 @@
 -- Readers: what the functions of this crate find at the front of the words, and how readers are joined. Each is proved
 -- to read its phrase.
-use Rattle.std.specs.Prelude.{ℕ, zero, suc, Bool, true, false, cond, List, [], ◌∷◌, length, Option, Some, None, Result, Ok, Err}
+use Rattle.std.specs.Prelude.{ℕ, zero, suc, Bool, cond, List, [], ◌∷◌, length, Option, Some, None, Result, Ok, Err}
 use Rattle.px_parser.specs.Words.{Word}
 
 -- a value and the words after it, or how many words are left at the first word that fits nothing

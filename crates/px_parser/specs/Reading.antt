@@ -1,5 +1,5 @@
 -- A reader for each production. None of these says what a program is: each is proved to read its phrase of the grammar.
-use Rattle.std.specs.Prelude.{◌≡◌, ℕ, zero, suc, ◌-◌, ◌==◌, Bool, true, false, cond, not, ◌&&◌, List, [], ◌∷◌, length, Option, Some, None, Result, Ok, Err}
+use Rattle.std.specs.Prelude.{ℕ, zero, suc, ◌-◌, ◌==◌, Bool, true, false, cond, ◌&&◌, List, [], ◌∷◌, Option, Some, None}
 use Rattle.px_terms.specs.declared.limits.TheConstants.{NESTING}
 use Rattle.px_terms.specs.declared.raw.RawProp.{RawProp}
 use Rattle.px_lexer.specs.declared.token.Key.{Key}
@@ -11,7 +11,7 @@ use Rattle.px_lexer.specs.declared.token.TokenKind.TheVariants as kinds
 use Rattle.px_parser.specs.Words.{Word}
 use Rattle.px_parser.specs.Kinds.{is_mark, is_key, is_lower, is_upper, is_number, is_property, fronts}
 use Rattle.px_parser.specs.Grammar.{type_of}
-use Rattle.px_parser.specs.Readers.{Reader, ◌>>=◌, pure, fail, bind, choice, word_at, each_at}
+use Rattle.px_parser.specs.Readers.{Reader, ◌>>=◌, pure, fail, choice, word_at, each_at}
 use Rattle.px_parser.specs.declared.surface.Name.{Name}
 use Rattle.px_parser.specs.declared.surface.SType.{SType}
 use Rattle.px_parser.specs.declared.surface.SCon.{SCon}

@@ -2,7 +2,7 @@ use Rattle.std.proofs.Common.{◌≡◌, length}
 use Rattle.px_lexer.specs.declared.token.Mark.TheVariants.{Comma}
 use Rattle.px_parser.specs.Gives.{words}
 use Rattle.px_parser.specs.Kinds.{is_mark, fronts}
-use Rattle.px_parser.specs.Reading.{properties_at, property_at, property_value}
+use Rattle.px_parser.specs.Reading.{properties_at, property_at}
 use Rattle.px_parser.proofs.Loops.{so_far, next_at}
 use Rattle.px_parser.proofs.lists.read_properties.Given as goal
 

@@ -1,4 +1,4 @@
-use Rattle.std.proofs.Common.{◌≡◌, ◌≤◌, length, slice_range, IsUtf8, rules, arith}
+use Rattle.std.proofs.Common.{slice_range, IsUtf8}
 use Rattle.px_parser.proofs.ReadableFacts.{within_text, name_is_utf8, is_ok_from}
 use Rattle.px_parser.proofs.names.name_of.Goals as goal
 

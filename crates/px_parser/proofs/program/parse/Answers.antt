@@ -1,4 +1,4 @@
-use Rattle.std.proofs.Common.{◌≡◌, length, Ok, Err}
+use Rattle.std.proofs.Common.{length, Ok, Err}
 use Rattle.px_parser.specs.Gives.{words}
 use Rattle.px_parser.specs.declared.parse_end.ParseEnd.TheVariants.{Fault}
 use Rattle.px_parser.specs.Faults.{IsProgramOf, IsFaultOf}

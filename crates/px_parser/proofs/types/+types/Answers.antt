@@ -1,8 +1,8 @@
-use Rattle.std.proofs.Common.{◌≡◌, refl, sym, ◌∙◌, rules, arith, false}
+use Rattle.std.proofs.Common.{refl, sym, ◌∙◌, arith}
 use Rattle.std.proofs.lemmas.Result.{err_from_is_err_and}
 use Rattle.px_lexer.specs.declared.token.Mark.TheVariants.{Comma}
 use Rattle.px_parser.specs.Kinds.{is_mark, fronts}
-use Rattle.px_parser.specs.Gives.{words, Gives}
+use Rattle.px_parser.specs.Gives.{words}
 use Rattle.px_parser.specs.Reading.{type_at, types_at}
 use Rattle.px_parser.proofs.Fronts.{fails_at}
 use Rattle.px_parser.proofs.TypeSteps.{no_type, a_type, no_name, no_arguments}

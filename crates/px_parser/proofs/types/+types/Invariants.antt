@@ -1,4 +1,4 @@
-use Rattle.std.proofs.Common.{◌≡◌, ℕ, ◌+◌, ◌-◌, ◌*◌, ◌<◌, ◌≤◌, length}
+use Rattle.std.proofs.Common.{◌≡◌, ◌+◌, ◌*◌, length}
 use Rattle.px_lexer.specs.declared.token.Mark.TheVariants.{Comma}
 use Rattle.px_parser.specs.Gives.{words}
 use Rattle.px_parser.specs.Kinds.{is_mark, fronts}

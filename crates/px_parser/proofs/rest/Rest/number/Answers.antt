@@ -1,11 +1,9 @@
-use Rattle.std.proofs.Common.{◌≡◌, true, false, rules, subst, sym}
-use Rattle.px_lexer.specs.declared.token.TokenKind.TheVariants as kinds
+use Rattle.std.proofs.Common.{◌≡◌, true, false, rules}
 use Rattle.px_parser.specs.Words.{word_of}
-use Rattle.px_parser.specs.Kinds.{is_mark, is_key, is_number}
+use Rattle.px_parser.specs.Kinds.{is_number}
 use Rattle.px_parser.specs.Gives.{words}
-use Rattle.px_parser.specs.Reading.{mark_value, key_value, upper_value, property_value, number_value}
+use Rattle.px_parser.specs.Reading.{number_value}
 use Rattle.px_parser.proofs.Fronts.{fails_at, none_at, other_at, some_at, where_holds, where_fails}
-use Rattle.px_parser.proofs.Marks.{mark_at_fails}
 use Rattle.px_parser.proofs.rest.Rest.number.Goals as goal
 
 pub returns-in_default : goal.returns-in_default
