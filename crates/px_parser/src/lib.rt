@@ -1,10 +1,32 @@
-//! The grammar's one tree of a program's tokens, or the first token through which no program begins.
-//! The grammar stands in `specs/`: a relation by cases between tokens and trees, one case a production.
+//! The tree of a program's tokens. `parse` answers exactly the grammar's tree, or exactly the first token through
+//! which no program begins, nesting included.
+//! The grammar stands in `specs/Grammar.antt`, a phrase for each production: which words are written for which tree.
+//! The functions go over the tokens once, and look at one token, or at two behind a comma among a parameter's
+//! properties. They call themselves only for nested types and expressions, at most as deep as these may nest; lists
+//! are loops. Each gives what its reader of `specs/Reading.antt` finds, and each reader is proved to read its phrase.
+//! What the names mean is not looked at here.
 #![tactic(auto)]
 
+mod declarations;
+mod expressions;
+mod laws;
+mod lists;
+mod names;
+mod parameters;
+mod parse_end;
+mod program;
+mod read_end;
+mod rest;
 mod surface;
+mod types;
 
+pub use laws::{never_both, one_fault, one_tree};
+pub use parse_end::ParseEnd;
+pub use program::parse;
 pub use surface::{
-    Item, Name, SArm, SClaim, SCon, SData, SDef, SEquation, SExpr, SExprKind, SFnType, SFun, SLemma,
-    SParam, SParamKind, SReplica, SType, Surface,
+    Item, Name, SArm, SClaim, SCon, SData, SDef, SEquation, SExpr, SExprKind, SFnType, SFun,
+    SLemma, SParam, SParamKind, SReplica, SType, Surface,
 };
+
+#[cfg(test)]
+mod tests;

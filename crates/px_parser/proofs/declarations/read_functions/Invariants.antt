@@ -1,0 +1,13 @@
+use Rattle.std.proofs.Common.{◌≡◌, length}
+use Rattle.px_lexer.specs.declared.token.Mark.TheVariants.{Comma}
+use Rattle.px_parser.specs.Gives.{words}
+use Rattle.px_parser.specs.Kinds.{is_mark, fronts}
+use Rattle.px_parser.specs.Reading.{functions_at, function_at}
+use Rattle.px_parser.proofs.Loops.{so_far, next_at}
+use Rattle.px_parser.proofs.declarations.read_functions.Given as goal
+
+abbrev pub invariant-loop-after : goal.invariant-loop-after
+invariant-loop-after l = so_far (fronts (is_mark Comma)) (next_at Comma function_at) l.functions (words l.rest) ≡ functions_at (words l.fn.tokens)
+
+abbrev pub decreases-loop-after : goal.decreases-loop-after
+decreases-loop-after l = length (words l.rest)

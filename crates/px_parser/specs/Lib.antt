@@ -1,0 +1,10 @@
+pub mod Words
+pub mod Kinds
+pub mod Phrases
+pub mod Grammar
+pub mod Faults
+pub mod Readers
+pub mod Reading
+pub mod Readable
+pub mod Gives
+pub mod Laws

@@ -1,0 +1,47 @@
+//! A program of tokens.
+ghost use Rattle.std.specs.Prelude.{◌≡◌, ◌≤◌, ◌<◌, ℕ, List, length, Ok, Err, IfOk, IfErr};
+ghost use Rattle.px_lexer.specs.Tokens.{AreTokens};
+ghost use Rattle.px_parser.specs.declared.surface.Surface.{Surface};
+ghost use Rattle.px_parser.specs.Faults.{IsProgramOf, IsFaultOf, IsEnd, IsUnlessNoMemory, place_of};
+
+use crate::declarations::read_items;
+use crate::parse_end::ParseEnd;
+use crate::read_end::ReadEnd;
+use crate::rest::Rest;
+use crate::surface::Surface;
+use px_lexer::Token;
+use px_terms::limits::PROGRAM_BYTES;
+use std::alloc::Global;
+
+/// The tree of the text's tokens, unless memory runs out. A fault where the tokens are no program: at the first token
+/// through which no program begins, nesting included, or at the text's end where only the end is wrong. It takes memory.
+pub fn parse(alloc: Global, tokens: &[Token], text: &[u8]) -> Result<Surface, ParseEnd>
+    requires small { length text.now ≤ PROGRAM_BYTES }
+    requires tokens { AreTokens text.now tokens.now }
+    ensures ok { IfOk result (IsProgramOf text.now tokens.now) }
+    ensures fault { IfErr result (IsEnd text.now tokens.now) }
+
+    // Unless memory runs out, the one tree of the tokens is answered, and so is their one fault.
+    ensures each_tree { (tree : Surface) → IsProgramOf text.now tokens.now tree → IsUnlessNoMemory (Ok tree) result }
+    ensures each_fault { (at : ℕ) → IsFaultOf text.now tokens.now at → IsUnlessNoMemory (Err (ParseEnd.Fault at)) result }
+{
+    let rest = Rest { text, tokens };
+    match read_items(alloc, rest) {
+        Ok((items, _)) => Ok(Surface { items }),
+        Err(ReadEnd::NoMemory) => Err(ParseEnd::NoMemory),
+        Err(ReadEnd::Fault { left }) => Err(ParseEnd::Fault {
+            at: place(tokens, text, tokens.len() - left),
+        }),
+    }
+}
+
+/// The place of the token of this number, or of the text's end.
+fn place(tokens: &[Token], text: &[u8], number: usize) -> u32
+    requires { length text.now ≤ PROGRAM_BYTES }
+    ensures { result ≡ place_of text.now tokens.now number }
+{
+    match tokens.get(number) {
+        Some(token) => token.start,
+        None => text.len() as u32,
+    }
+}

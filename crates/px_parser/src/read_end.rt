@@ -1,0 +1,32 @@
+use std::alloc::{AllocError, AllocFailed};
+
+/// Why nothing was read.
+#[derive(Clone, Copy, Debug, PartialEq, Eq)]
+pub(crate) enum ReadEnd {
+    /// So many tokens are left at the first one that fits nothing.
+    Fault { left: usize },
+    /// No memory was left.
+    NoMemory,
+}
+
+impl From<AllocError> for ReadEnd {
+    ghost use Rattle.std.specs.Prelude.{◌≡◌};
+    ghost use Rattle.px_parser.specs.declared.read_end.ReadEnd.TheVariants.{NoMemory};
+
+    ghost from_gives = { λ _ end. end ≡ NoMemory };
+
+    fn from(_error: AllocError) -> ReadEnd {
+        ReadEnd::NoMemory
+    }
+}
+
+impl<T: Drop> From<AllocFailed<T>> for ReadEnd {
+    ghost use Rattle.std.specs.Prelude.{◌≡◌};
+    ghost use Rattle.px_parser.specs.declared.read_end.ReadEnd.TheVariants.{NoMemory};
+
+    ghost from_gives = { λ _ end. end ≡ NoMemory };
+
+    fn from(_error: AllocFailed<T>) -> ReadEnd {
+        ReadEnd::NoMemory
+    }
+}
