@@ -1,0 +1,12 @@
+pub mod Names
+pub mod Standing
+pub mod Later
+pub mod Rules
+pub mod Uses
+pub mod Numbers
+pub mod Declaring
+pub mod ItemUses
+pub mod Programs
+pub mod Answers
+pub mod Laws
+pub mod Small

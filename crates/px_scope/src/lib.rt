@@ -1,0 +1,28 @@
+//! Names become numbers. `resolve` answers the numbered program of a surface tree, or exactly the first name by
+//! place that breaks a rule of scope, with the first rule that it breaks.
+//! What a name stands for at its place stands in `specs/Standing.antt`, each place's rule in `specs/Rules.antt`; which
+//! names a tree has, in the order of the text, in `specs/Uses.antt`, and which numbered program it is in
+//! `specs/Numbers.antt`. The functions go over the tree once. They call themselves only for nested types and
+//! expressions, at most as deep as these may nest; lists are loops, and a name is looked up in a table.
+//! What a term's type is, is not looked at here.
+#![tactic(auto)]
+
+mod data;
+mod declarations;
+mod ends;
+mod expressions;
+mod functions;
+mod globals;
+mod later;
+mod laws;
+mod locals;
+mod lookups;
+mod names;
+mod parameters;
+mod programs;
+mod properties;
+mod types;
+
+pub use ends::{ScopeEnd, ScopeKind};
+pub use laws::{never_both, one_fault, one_numbering};
+pub use programs::resolve;
