@@ -18,3 +18,5 @@ pub mod TokensReadable
 pub mod Parses
 pub mod Fits
 pub mod TreesFit
+pub mod Yields
+pub mod TreesNest

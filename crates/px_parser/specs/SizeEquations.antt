@@ -42,11 +42,13 @@ pub expr_kind_size-Number : (n : ℕ) → expr_kind_size (Number n) ≡ 1
 expr_kind_size-Number n =
     ap expr_kind_size (sym (rolls-Number n)) ∙ fold-roll-SExprKind ℕ ℕ ℕ expr_kind_size_step arm_size_step expr_size_step (SExprKind-F.Number n)
 
-pub expr_kind_size-Upper : (name : Name) (types : List SType) (fields : List SExpr) → expr_kind_size (Upper name types fields) ≡ 1 + types_size types + exprs_size fields
+pub expr_kind_size-Upper : (name : Name) (types : List SType) (fields : List SExpr) →
+    expr_kind_size (Upper name types fields) ≡ 1 + types_size types + exprs_size fields
 expr_kind_size-Upper name types fields =
     ap expr_kind_size (sym (rolls-Upper name types fields)) ∙ fold-roll-SExprKind ℕ ℕ ℕ expr_kind_size_step arm_size_step expr_size_step (SExprKind-F.Upper name types fields)
 
-pub expr_kind_size-Lower : (name : Name) (types : List SType) (args : Option (List SExpr)) → expr_kind_size (Lower name types args) ≡ 1 + types_size types + args_size args
+pub expr_kind_size-Lower : (name : Name) (types : List SType) (args : Option (List SExpr)) →
+    expr_kind_size (Lower name types args) ≡ 1 + types_size types + args_size args
 expr_kind_size-Lower name types (Some args) =
     ap expr_kind_size (sym (rolls-Lower name types (Some args))) ∙ fold-roll-SExprKind ℕ ℕ ℕ expr_kind_size_step arm_size_step expr_size_step (SExprKind-F.Lower name types (Some args))
 expr_kind_size-Lower name types None =
@@ -55,6 +57,22 @@ expr_kind_size-Lower name types None =
 pub expr_kind_size-Match : (on : SExpr) (arms : List SArm) → expr_kind_size (Match on arms) ≡ 1 + expr_size on + arms_size arms
 expr_kind_size-Match on arms =
     ap expr_kind_size (sym (rolls-Match on arms)) ∙ fold-roll-SExprKind ℕ ℕ ℕ expr_kind_size_step arm_size_step expr_size_step (SExprKind-F.Match on arms)
+
+pub expr_size-Number : (at : ℕ) (n : ℕ) →
+    expr_size (record { at = at; kind = Number n }) ≡ 1
+expr_size-Number at n = expr_size-kind (record { at = at; kind = Number n }) ∙ expr_kind_size-Number n
+
+pub expr_size-Upper : (at : ℕ) (name : Name) (types : List SType) (fields : List SExpr) →
+    expr_size (record { at = at; kind = Upper name types fields }) ≡ 1 + types_size types + exprs_size fields
+expr_size-Upper at name types fields = expr_size-kind (record { at = at; kind = Upper name types fields }) ∙ expr_kind_size-Upper name types fields
+
+pub expr_size-Lower : (at : ℕ) (name : Name) (types : List SType) (args : Option (List SExpr)) →
+    expr_size (record { at = at; kind = Lower name types args }) ≡ 1 + types_size types + args_size args
+expr_size-Lower at name types args = expr_size-kind (record { at = at; kind = Lower name types args }) ∙ expr_kind_size-Lower name types args
+
+pub expr_size-Match : (at : ℕ) (on : SExpr) (arms : List SArm) →
+    expr_size (record { at = at; kind = Match on arms }) ≡ 1 + expr_size on + arms_size arms
+expr_size-Match at on arms = expr_size-kind (record { at = at; kind = Match on arms }) ∙ expr_kind_size-Match on arms
 
 pub type_depth-roll : (name : Name) (args : List SType) → type_depth (roll-SType (record { name = name; args = args })) ≡ 1 + types_depth args
 type_depth-roll name args = fold-roll-SType ℕ type_depth_step (record { name = name; args = args })
@@ -72,11 +90,13 @@ pub expr_kind_depth-Number : (n : ℕ) → expr_kind_depth (Number n) ≡ 1
 expr_kind_depth-Number n =
     ap expr_kind_depth (sym (rolls-Number n)) ∙ fold-roll-SExprKind ℕ ℕ ℕ expr_kind_depth_step arm_depth_step expr_depth_step (SExprKind-F.Number n)
 
-pub expr_kind_depth-Upper : (name : Name) (types : List SType) (fields : List SExpr) → expr_kind_depth (Upper name types fields) ≡ 1 + max (types_depth types) (exprs_depth fields)
+pub expr_kind_depth-Upper : (name : Name) (types : List SType) (fields : List SExpr) →
+    expr_kind_depth (Upper name types fields) ≡ 1 + max (types_depth types) (exprs_depth fields)
 expr_kind_depth-Upper name types fields =
     ap expr_kind_depth (sym (rolls-Upper name types fields)) ∙ fold-roll-SExprKind ℕ ℕ ℕ expr_kind_depth_step arm_depth_step expr_depth_step (SExprKind-F.Upper name types fields)
 
-pub expr_kind_depth-Lower : (name : Name) (types : List SType) (args : Option (List SExpr)) → expr_kind_depth (Lower name types args) ≡ 1 + max (types_depth types) (args_depth args)
+pub expr_kind_depth-Lower : (name : Name) (types : List SType) (args : Option (List SExpr)) →
+    expr_kind_depth (Lower name types args) ≡ 1 + max (types_depth types) (args_depth args)
 expr_kind_depth-Lower name types (Some args) =
     ap expr_kind_depth (sym (rolls-Lower name types (Some args))) ∙ fold-roll-SExprKind ℕ ℕ ℕ expr_kind_depth_step arm_depth_step expr_depth_step (SExprKind-F.Lower name types (Some args))
 expr_kind_depth-Lower name types None =
@@ -86,6 +106,22 @@ pub expr_kind_depth-Match : (on : SExpr) (arms : List SArm) → expr_kind_depth 
 expr_kind_depth-Match on arms =
     ap expr_kind_depth (sym (rolls-Match on arms)) ∙ fold-roll-SExprKind ℕ ℕ ℕ expr_kind_depth_step arm_depth_step expr_depth_step (SExprKind-F.Match on arms)
 
+pub expr_depth-Number : (at : ℕ) (n : ℕ) →
+    expr_depth (record { at = at; kind = Number n }) ≡ 1
+expr_depth-Number at n = expr_depth-kind (record { at = at; kind = Number n }) ∙ expr_kind_depth-Number n
+
+pub expr_depth-Upper : (at : ℕ) (name : Name) (types : List SType) (fields : List SExpr) →
+    expr_depth (record { at = at; kind = Upper name types fields }) ≡ 1 + max (types_depth types) (exprs_depth fields)
+expr_depth-Upper at name types fields = expr_depth-kind (record { at = at; kind = Upper name types fields }) ∙ expr_kind_depth-Upper name types fields
+
+pub expr_depth-Lower : (at : ℕ) (name : Name) (types : List SType) (args : Option (List SExpr)) →
+    expr_depth (record { at = at; kind = Lower name types args }) ≡ 1 + max (types_depth types) (args_depth args)
+expr_depth-Lower at name types args = expr_depth-kind (record { at = at; kind = Lower name types args }) ∙ expr_kind_depth-Lower name types args
+
+pub expr_depth-Match : (at : ℕ) (on : SExpr) (arms : List SArm) →
+    expr_depth (record { at = at; kind = Match on arms }) ≡ 1 + max (expr_depth on) (arms_depth arms)
+expr_depth-Match at on arms = expr_depth-kind (record { at = at; kind = Match on arms }) ∙ expr_kind_depth-Match on arms
+
 -- sums over a list
 pub sum_map-cons : {A : Type 0} (f : A → ℕ) (x : A) (xs : List A) → sum (map f (x ∷ xs)) ≡ f x + sum (map f xs)
 sum_map-cons f x xs = sum-map f (x ∷ xs) ∙ sum_by-cons f x xs ∙ ap (λ n. f x + n) (sym (sum-map f xs))
@@ -93,7 +129,8 @@ sum_map-cons f x xs = sum-map f (x ∷ xs) ∙ sum_by-cons f x xs ∙ ap (λ n. 
 pub sum_map-take-le : {A : Type 0} (f : A → ℕ) (xs : List A) (i : ℕ) → sum (map f (take i xs)) ≤ sum (map f xs)
 sum_map-take-le f xs i = omega (arith, sum-map f (take i xs), sum-map f xs, sum_by-take-le f xs i)
 
-pub sum_map_more : {A : Type 0} (f : A → ℕ) (xs : List A) (i : ℕ) (x : A) → i < length xs → sum (map f (take (i + 1) xs)) ≡ sum (map f (take i xs)) + f (get_or xs i x)
+pub sum_map_more : {A : Type 0} (f : A → ℕ) (xs : List A) (i : ℕ) (x : A) → i < length xs →
+    sum (map f (take (i + 1) xs)) ≡ sum (map f (take i xs)) + f (get_or xs i x)
 sum_map_more f xs i x h = omega (arith, sum-map f (take (i + 1) xs), sum-map f (take i xs), sum_by_more f xs i x h)
 
 pub get_or-le-sum_map : {A : Type 0} (f : A → ℕ) (xs : List A) (i : ℕ) (x : A) → i < length xs → f (get_or xs i x) ≤ sum (map f xs)
@@ -166,7 +203,8 @@ types_size-cons type types = sum_map-cons type_size type types
 pub types_size-take-le : (types : List SType) (i : ℕ) → types_size (take i types) ≤ types_size types
 types_size-take-le types i = sum_map-take-le type_size types i
 
-pub types_size_more : (types : List SType) (i : ℕ) (type : SType) → i < length types → types_size (take (i + 1) types) ≡ types_size (take i types) + type_size (get_or types i type)
+pub types_size_more : (types : List SType) (i : ℕ) (type : SType) → i < length types →
+    types_size (take (i + 1) types) ≡ types_size (take i types) + type_size (get_or types i type)
 types_size_more types i type h = sum_map_more type_size types i type h
 
 pub get_or-le-types_size : (types : List SType) (i : ℕ) (type : SType) → i < length types → type_size (get_or types i type) ≤ types_size types
@@ -182,7 +220,8 @@ exprs_size-cons expr exprs = sum_map-cons expr_size expr exprs
 pub exprs_size-take-le : (exprs : List SExpr) (i : ℕ) → exprs_size (take i exprs) ≤ exprs_size exprs
 exprs_size-take-le exprs i = sum_map-take-le expr_size exprs i
 
-pub exprs_size_more : (exprs : List SExpr) (i : ℕ) (expr : SExpr) → i < length exprs → exprs_size (take (i + 1) exprs) ≡ exprs_size (take i exprs) + expr_size (get_or exprs i expr)
+pub exprs_size_more : (exprs : List SExpr) (i : ℕ) (expr : SExpr) → i < length exprs →
+    exprs_size (take (i + 1) exprs) ≡ exprs_size (take i exprs) + expr_size (get_or exprs i expr)
 exprs_size_more exprs i expr h = sum_map_more expr_size exprs i expr h
 
 pub get_or-le-exprs_size : (exprs : List SExpr) (i : ℕ) (expr : SExpr) → i < length exprs → expr_size (get_or exprs i expr) ≤ exprs_size exprs
@@ -198,7 +237,8 @@ arms_size-cons arm arms = sum_map-cons arm_size arm arms
 pub arms_size-take-le : (arms : List SArm) (i : ℕ) → arms_size (take i arms) ≤ arms_size arms
 arms_size-take-le arms i = sum_map-take-le arm_size arms i
 
-pub arms_size_more : (arms : List SArm) (i : ℕ) (arm : SArm) → i < length arms → arms_size (take (i + 1) arms) ≡ arms_size (take i arms) + arm_size (get_or arms i arm)
+pub arms_size_more : (arms : List SArm) (i : ℕ) (arm : SArm) → i < length arms →
+    arms_size (take (i + 1) arms) ≡ arms_size (take i arms) + arm_size (get_or arms i arm)
 arms_size_more arms i arm h = sum_map_more arm_size arms i arm h
 
 pub get_or-le-arms_size : (arms : List SArm) (i : ℕ) (arm : SArm) → i < length arms → arm_size (get_or arms i arm) ≤ arms_size arms
@@ -214,10 +254,12 @@ params_size-cons param params = sum_map-cons param_size param params
 pub params_size-take-le : (params : List SParam) (i : ℕ) → params_size (take i params) ≤ params_size params
 params_size-take-le params i = sum_map-take-le param_size params i
 
-pub params_size_more : (params : List SParam) (i : ℕ) (param : SParam) → i < length params → params_size (take (i + 1) params) ≡ params_size (take i params) + param_size (get_or params i param)
+pub params_size_more : (params : List SParam) (i : ℕ) (param : SParam) → i < length params →
+    params_size (take (i + 1) params) ≡ params_size (take i params) + param_size (get_or params i param)
 params_size_more params i param h = sum_map_more param_size params i param h
 
-pub get_or-le-params_size : (params : List SParam) (i : ℕ) (param : SParam) → i < length params → param_size (get_or params i param) ≤ params_size params
+pub get_or-le-params_size : (params : List SParam) (i : ℕ) (param : SParam) → i < length params →
+    param_size (get_or params i param) ≤ params_size params
 get_or-le-params_size params i param h = get_or-le-sum_map param_size params i param h
 
 pub length-le-params_size : (params : List SParam) → length params ≤ params_size params
@@ -230,7 +272,8 @@ cons_size-cons con cons = sum_map-cons con_size con cons
 pub cons_size-take-le : (cons : List SCon) (i : ℕ) → cons_size (take i cons) ≤ cons_size cons
 cons_size-take-le cons i = sum_map-take-le con_size cons i
 
-pub cons_size_more : (cons : List SCon) (i : ℕ) (con : SCon) → i < length cons → cons_size (take (i + 1) cons) ≡ cons_size (take i cons) + con_size (get_or cons i con)
+pub cons_size_more : (cons : List SCon) (i : ℕ) (con : SCon) → i < length cons →
+    cons_size (take (i + 1) cons) ≡ cons_size (take i cons) + con_size (get_or cons i con)
 cons_size_more cons i con h = sum_map_more con_size cons i con h
 
 pub get_or-le-cons_size : (cons : List SCon) (i : ℕ) (con : SCon) → i < length cons → con_size (get_or cons i con) ≤ cons_size cons
@@ -240,16 +283,19 @@ pub length-le-cons_size : (cons : List SCon) → length cons ≤ cons_size cons
 length-le-cons_size cons = length-le-sum_map con_size con_size-positive cons
 
 -- the sizes of equations
-pub equations_size-cons : (equation : SEquation) (equations : List SEquation) → equations_size (equation ∷ equations) ≡ equation_size equation + equations_size equations
+pub equations_size-cons : (equation : SEquation) (equations : List SEquation) →
+    equations_size (equation ∷ equations) ≡ equation_size equation + equations_size equations
 equations_size-cons equation equations = sum_map-cons equation_size equation equations
 
 pub equations_size-take-le : (equations : List SEquation) (i : ℕ) → equations_size (take i equations) ≤ equations_size equations
 equations_size-take-le equations i = sum_map-take-le equation_size equations i
 
-pub equations_size_more : (equations : List SEquation) (i : ℕ) (equation : SEquation) → i < length equations → equations_size (take (i + 1) equations) ≡ equations_size (take i equations) + equation_size (get_or equations i equation)
+pub equations_size_more : (equations : List SEquation) (i : ℕ) (equation : SEquation) → i < length equations →
+    equations_size (take (i + 1) equations) ≡ equations_size (take i equations) + equation_size (get_or equations i equation)
 equations_size_more equations i equation h = sum_map_more equation_size equations i equation h
 
-pub get_or-le-equations_size : (equations : List SEquation) (i : ℕ) (equation : SEquation) → i < length equations → equation_size (get_or equations i equation) ≤ equations_size equations
+pub get_or-le-equations_size : (equations : List SEquation) (i : ℕ) (equation : SEquation) → i < length equations →
+    equation_size (get_or equations i equation) ≤ equations_size equations
 get_or-le-equations_size equations i equation h = get_or-le-sum_map equation_size equations i equation h
 
 pub length-le-equations_size : (equations : List SEquation) → length equations ≤ equations_size equations
@@ -262,7 +308,8 @@ funs_size-cons fun funs = sum_map-cons fun_size fun funs
 pub funs_size-take-le : (funs : List SFun) (i : ℕ) → funs_size (take i funs) ≤ funs_size funs
 funs_size-take-le funs i = sum_map-take-le fun_size funs i
 
-pub funs_size_more : (funs : List SFun) (i : ℕ) (fun : SFun) → i < length funs → funs_size (take (i + 1) funs) ≡ funs_size (take i funs) + fun_size (get_or funs i fun)
+pub funs_size_more : (funs : List SFun) (i : ℕ) (fun : SFun) → i < length funs →
+    funs_size (take (i + 1) funs) ≡ funs_size (take i funs) + fun_size (get_or funs i fun)
 funs_size_more funs i fun h = sum_map_more fun_size funs i fun h
 
 pub get_or-le-funs_size : (funs : List SFun) (i : ℕ) (fun : SFun) → i < length funs → fun_size (get_or funs i fun) ≤ funs_size funs
@@ -278,7 +325,8 @@ items_size-cons item items = sum_map-cons item_size item items
 pub items_size-take-le : (items : List Item) (i : ℕ) → items_size (take i items) ≤ items_size items
 items_size-take-le items i = sum_map-take-le item_size items i
 
-pub items_size_more : (items : List Item) (i : ℕ) (item : Item) → i < length items → items_size (take (i + 1) items) ≡ items_size (take i items) + item_size (get_or items i item)
+pub items_size_more : (items : List Item) (i : ℕ) (item : Item) → i < length items →
+    items_size (take (i + 1) items) ≡ items_size (take i items) + item_size (get_or items i item)
 items_size_more items i item h = sum_map_more item_size items i item h
 
 pub get_or-le-items_size : (items : List Item) (i : ℕ) (item : Item) → i < length items → item_size (get_or items i item) ≤ items_size items

@@ -1,5 +1,5 @@
--- How many parts a program's tree has, and how deep its types and expressions nest. A part is a name, a number, a
--- property or a word that begins a declaration, so a tree has no more parts than its text has tokens.
+-- How many parts a program's tree has, and how deep its types and expressions nest. Each part has a token of its own: a
+-- name, a number, a property's word, `match` or `fn`. So a tree has no more parts than its text has tokens.
 use Rattle.std.specs.Prelude.{ℕ, ◌+◌, ◌≤◌, max, List, map, sum, length, Option, Some, None, All}
 use Rattle.px_terms.specs.declared.limits.TheConstants.{NESTING}
 use Rattle.px_terms.specs.Types.{largest}
@@ -115,7 +115,8 @@ data_size declaration = 1 + length declaration.tparams + cons_size declaration.c
 
 -- the parts of a definition
 abbrev pub def_size : SDef → ℕ
-def_size declaration = 1 + length declaration.tparams + params_size declaration.params + type_size declaration.result + length declaration.props + expr_size declaration.body
+def_size declaration =
+    1 + length declaration.tparams + params_size declaration.params + type_size declaration.result + length declaration.props + expr_size declaration.body
 
 -- the parts of a claim
 abbrev pub claim_size : SClaim → ℕ
