@@ -16,3 +16,7 @@ pub mod ExpressionSteps
 pub mod Programs
 pub mod TokensReadable
 pub mod Parses
+pub mod Fits
+pub mod TreesFit
+pub mod Yields
+pub mod TreesNest

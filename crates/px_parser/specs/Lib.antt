@@ -8,3 +8,5 @@ pub mod Reading
 pub mod Readable
 pub mod Gives
 pub mod Laws
+pub mod Sizes
+pub mod SizeEquations

@@ -3,6 +3,7 @@ ghost use Rattle.std.specs.Prelude.{◌≡◌, ◌≤◌, ◌<◌, ℕ, List, le
 ghost use Rattle.px_lexer.specs.Tokens.{AreTokens};
 ghost use Rattle.px_parser.specs.declared.surface.Surface.{Surface};
 ghost use Rattle.px_parser.specs.Faults.{IsProgramOf, IsFaultOf, IsEnd, IsUnlessNoMemory, place_of};
+ghost use Rattle.px_parser.specs.Sizes.{surface_size, IsWithinNesting};
 
 use crate::declarations::read_items;
 use crate::parse_end::ParseEnd;
@@ -20,6 +21,10 @@ pub fn parse(alloc: Global, tokens: &[Token], text: &[u8]) -> Result<Surface, Pa
     requires tokens { AreTokens text.now tokens.now }
     ensures ok { IfOk result (IsProgramOf text.now tokens.now) }
     ensures fault { IfErr result (IsEnd text.now tokens.now) }
+
+    // The tree has no more parts than there are tokens, and its types and expressions nest within the limit.
+    ensures fits { IfOk result (λ tree. surface_size tree ≤ length tokens.now) }
+    ensures nests { IfOk result IsWithinNesting }
 
     // Unless memory runs out, the one tree of the tokens is answered, and so is their one fault.
     ensures each_tree { (tree : Surface) → IsProgramOf text.now tokens.now tree → IsUnlessNoMemory (Ok tree) result }
