@@ -29,9 +29,13 @@ abbrev pub Fails : Option Broken → ScopeEnd → Type 0
 Fails broken (Fault kind at) = broken ≡ Some (record { kind = kind; at = at })
 Fails broken NoMemory = Unit {0}
 
--- No name of these breaks a rule, and of the value this is said; or the answer is their first fault, or want of memory.
+-- No name of these breaks a rule, and of the value this is said.
+abbrev pub Fine : {T : Type 0} → List Use → (T → Type 0) → T → Type 0
+Fine uses Is value = (first_broken uses ≡ None) × Is value
+
+-- The names break no rule, and of the value this is said; or the answer is their first fault, or want of memory.
 abbrev pub Resolves : {T : Type 0} → List Use → (T → Type 0) → Result T ScopeEnd → Type 0
-Resolves uses Is (Ok value) = (first_broken uses ≡ None) × Is value
+Resolves uses Is (Ok value) = Fine uses Is value
 Resolves uses Is (Err end) = Fails (first_broken uses) end
 
 -- the same of one name

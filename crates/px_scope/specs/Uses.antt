@@ -9,9 +9,8 @@ use Rattle.px_parser.specs.declared.surface.SType.{SType, out-SType}
 use Rattle.px_parser.specs.declared.surface.SType.TheOpen.{SType-F}
 use Rattle.px_parser.specs.declared.surface.SType.TheFolds.{fold-SType}
 use Rattle.px_parser.specs.declared.surface.SExpr.{SExpr}
-use Rattle.px_parser.specs.declared.surface.SExprKind.{SExprKind}
 use Rattle.px_parser.specs.declared.surface.SExprKind.TheOpen.{SExprKind-F, SArm-F, SExpr-F}
-use Rattle.px_parser.specs.declared.surface.SExprKind.TheFolds.{fold-SExprKind}
+use Rattle.px_parser.specs.declared.surface.SExprKind.TheFolds.{fold-SArm, fold-SExpr}
 use Rattle.px_parser.specs.declared.surface.SArm.{SArm}
 use Rattle.px_parser.specs.declared.surface.SFun.{SFun}
 use Rattle.px_parser.specs.declared.surface.Item.{Item}
@@ -142,17 +141,13 @@ arm_uses_step text G arm L = use_of arm.name (constructor_fault text G arm.name.
 abbrev pub expr_uses_step : SExpr-F (ℕ → Seen) (Locals → List Use) Seen → Seen
 expr_uses_step e role L = e.kind e.at role L
 
--- the names in an expression of this kind, at its first byte
-unfoldable pub kind_uses : List Item → Globals → SExprKind → ℕ → Seen
-kind_uses text G kind = fold-SExprKind (ℕ → Seen) (Locals → List Use) Seen (kind_uses_step text G) (arm_uses_step text G) expr_uses_step kind
-
--- the names in an expression
-abbrev pub expr_uses : List Item → Globals → SExpr → Seen
-expr_uses text G e role L = kind_uses text G e.kind e.at role L
+-- the names in an expression, by where it stands and by what is local there
+unfoldable pub expr_uses : List Item → Globals → SExpr → Seen
+expr_uses text G e = fold-SExpr (ℕ → Seen) (Locals → List Use) Seen (kind_uses_step text G) (arm_uses_step text G) expr_uses_step e
 
 -- the names in an arm
-abbrev pub arm_uses : List Item → Globals → SArm → Locals → List Use
-arm_uses text G arm L = use_of arm.name (constructor_fault text G arm.name.text) ∷ (variables_uses L arm.vars ++ expr_uses text G arm.body Data (bind L arm.vars))
+unfoldable pub arm_uses : List Item → Globals → SArm → Locals → List Use
+arm_uses text G arm = fold-SArm (ℕ → Seen) (Locals → List Use) Seen (kind_uses_step text G) (arm_uses_step text G) expr_uses_step arm
 
 -- the properties of a list, where these are claimed already
 abbrev pub properties_uses : List Prop → List RawProp → List Use
