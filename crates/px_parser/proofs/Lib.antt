@@ -20,3 +20,5 @@ pub mod Fits
 pub mod TreesFit
 pub mod Yields
 pub mod TreesNest
+pub mod TreesFilled
+pub mod TokensFit

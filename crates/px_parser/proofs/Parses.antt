@@ -1,16 +1,20 @@
 -- From what reading finds to what the answer says.
 use Rattle.std.proofs.Common.{◌≡◌, ℕ, suc, ◌+◌, ◌-◌, ◌≤◌, length, List, [], ◌∷◌, Result, Ok, Err, IfOk, IfErr, refl, sym, ap, ◌∙◌, inl, inr, arith}
+use Rattle.px_lexer.specs.Tokens.{AreTokens}
 use Rattle.px_lexer.specs.declared.token.Token.{Token}
 use Rattle.px_parser.specs.Words.{Word, words_of}
 use Rattle.px_parser.specs.Faults.{IsProgramOf, IsFaultOf, place_of, IsUnlessNoMemory, IsEnd}
 use Rattle.px_parser.specs.Reading.{items_at}
 use Rattle.px_parser.specs.Sizes.{surface_size, IsWithinNesting}
+use Rattle.px_parser.specs.Filled.{IsFilled}
 use Rattle.px_parser.specs.declared.surface.Item.{Item}
 use Rattle.px_parser.specs.declared.surface.Surface.{Surface}
 use Rattle.px_parser.specs.declared.parse_end.ParseEnd.{ParseEnd}
 use Rattle.px_parser.specs.declared.parse_end.ParseEnd.TheVariants.{Fault, NoMemory}
+use Rattle.px_parser.proofs.TokensFit.{tokens_fit}
 use Rattle.px_parser.proofs.TreesFit.{fits_program}
 use Rattle.px_parser.proofs.TreesNest.{nested_program}
+use Rattle.px_parser.proofs.TreesFilled.{filled_program}
 use Rattle.px_parser.proofs.Programs.{program_read, one_program, fault_read, left_within, no_program_and_fault, one_fault_at}
 
 words_length : (text : List ℕ) (tokens : List Token) → length (words_of text tokens) ≡ length tokens
@@ -26,14 +30,18 @@ left_of_tokens text tokens left e =
 pub tree_read : (text : List ℕ) (tokens : List Token) (rest : List Word) (all : List Item) → items_at (words_of text tokens) ≡ Ok (all, rest) → rest ≡ [] → IsProgramOf text tokens (record { items = all })
 tree_read text tokens rest all e none = program_read (words_of text tokens) all (e ∙ ap (λ r. Ok (all, r)) none)
 
-pub tree_fits : (text : List ℕ) (tokens : List Token) (tree : Surface) → IsProgramOf text tokens tree → surface_size tree ≤ length tokens
-tree_fits text tokens tree is =
+pub tree_fits : (text : List ℕ) (tokens : List Token) (tree : Surface) → AreTokens text tokens → IsProgramOf text tokens tree →
+    surface_size tree ≤ length text
+tree_fits text tokens tree are is =
     let size : length (words_of text tokens) ≡ length tokens = words_length text tokens in
     let fits : surface_size tree ≤ 0 + length (words_of text tokens) = fits_program.fits (words_of text tokens) tree is in
-    omega arith
+    omega (arith, tokens_fit text tokens are)
 
 pub tree_nests : (text : List ℕ) (tokens : List Token) (tree : Surface) → IsProgramOf text tokens tree → IsWithinNesting tree
 tree_nests text tokens tree is = nested_program.yields (words_of text tokens) tree is
+
+pub tree_filled : (text : List ℕ) (tokens : List Token) (tree : Surface) → IsProgramOf text tokens tree → IsFilled tree
+tree_filled text tokens tree is = filled_program.yields (words_of text tokens) tree is
 
 pub fault_is : (text : List ℕ) (tokens : List Token) (left place : ℕ) → items_at (words_of text tokens) ≡ Err left → place ≡ place_of text tokens (length tokens - left) → IsFaultOf text tokens place
 fault_is text tokens left place e at =

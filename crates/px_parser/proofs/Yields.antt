@@ -1,5 +1,5 @@
 -- What holds of each value that words are written for: one lemma a join.
-use Rattle.std.proofs.Common.{List, [], All}
+use Rattle.std.proofs.Common.{◌<◌, List, [], length, All, arith}
 use Rattle.std.proofs.lemmas.List.Elements.{All-nil, All-cons}
 use Rattle.px_lexer.specs.declared.token.Mark.{Mark}
 use Rattle.px_parser.specs.Words.{Word}
@@ -49,6 +49,12 @@ unfolding list
 yields_list {T} {P} separator yields =
     yields_bind yields (λ first holds. yields_bind (yields_each (yields_skip (λ nothing. yields))) (λ others all.
     yields_done (All-cons P first others holds all)))
+
+-- a list has at least one value
+pub yields_some : {T : Type 0} (separator : Mark) (A : List Word → T → Type 0) →
+    Yields (λ (values : List T). 0 < length values) (list separator A)
+unfolding list
+yields_some separator A = yields_skip (λ first. yields_skip (λ others. yields_done (omega arith)))
 
 pub yields_between : {T : Type 0} {P : T → Type 0} {A : List Word → T → Type 0} (opening closing : Mark) → Yields P A →
     Yields P (between opening A closing)

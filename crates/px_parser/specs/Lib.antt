@@ -10,3 +10,4 @@ pub mod Gives
 pub mod Laws
 pub mod Sizes
 pub mod SizeEquations
+pub mod Filled
