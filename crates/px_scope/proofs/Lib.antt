@@ -1,3 +1,4 @@
 mod Firsts
+mod LookupSteps
 mod NameFacts
 mod TypeSteps

@@ -98,7 +98,8 @@ pub(crate) fn find_called(
             head: Head::FnVar(number),
             functions: 0,
         }),
-        Some(_) => Err(fault(ScopeKind::WrongPlace, name.at)),
+        Some(Local::Value(_)) => Err(fault(ScopeKind::WrongPlace, name.at)),
+        Some(Local::Pattern(_)) => Err(fault(ScopeKind::WrongPlace, name.at)),
         None => match globals.meaning(name.text.as_str()) {
             Some(Meaning::Wle) => Ok(Called {
                 head: Head::Wle,
@@ -112,7 +113,8 @@ pub(crate) fn find_called(
                 head: Head::Def(number),
                 functions,
             }),
-            Some(_) => Err(fault(ScopeKind::WrongPlace, name.at)),
+            Some(Meaning::Lemma) => Err(fault(ScopeKind::WrongPlace, name.at)),
+            Some(Meaning::Replica) => Err(fault(ScopeKind::WrongPlace, name.at)),
             None => {
                 let kind = absent_kind(declares_lower(text, name.text.as_str()));
                 Err(fault(kind, name.at))

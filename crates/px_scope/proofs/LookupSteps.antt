@@ -1,0 +1,47 @@
+-- What names with a small letter stand for, step by step: as locals, and then at the top.
+use Rattle.std.proofs.Common.{◌≡◌, ℕ, Bool, true, false, List, Option, Some, None, Result, Ok, Err, refl, sym, ap, ◌∙◌, subst}
+use Rattle.px_terms.specs.declared.types.Head.{Head}
+use Rattle.px_parser.specs.declared.surface.Item.{Item}
+use Rattle.px_scope.specs.declared.ends.ScopeKind.{ScopeKind}
+use Rattle.px_scope.specs.declared.ends.ScopeKind.TheVariants.{WrongPlace}
+use Rattle.px_scope.specs.declared.ends.ScopeEnd.{ScopeEnd}
+use Rattle.px_scope.specs.declared.ends.ScopeEnd.TheVariants.{Fault, NoMemory}
+use Rattle.px_scope.specs.declared.globals.Meaning.{Meaning}
+use Rattle.px_scope.specs.declared.globals.Meaning.TheVariants.{Wle, Weq, Definition, Lemma, Replica}
+use Rattle.px_scope.specs.declared.globals.Globals.{Globals}
+use Rattle.px_scope.specs.declared.locals.Local.{Local}
+use Rattle.px_scope.specs.declared.locals.Local.TheVariants.{Function, Value, Pattern}
+use Rattle.px_scope.specs.declared.locals.Locals.{Locals}
+use Rattle.px_scope.specs.Standing.{meaning_of, local_of, head_of, head_of_meaning}
+use Rattle.px_scope.specs.Rules.{absent, is_own, value_fault_at, value_fault, function_fault_at, function_fault, global_function_fault}
+use Rattle.px_scope.specs.Later.{declares_lower}
+use Rattle.px_scope.specs.Uses.{broken_or}
+use Rattle.px_scope.specs.Answers.{Fails, Finds}
+
+-- what is found of a name is found of its text
+pub found_of : {T : Type 0} (look : List ℕ → Option T) (text name : List ℕ) (found answer : Option T) → text ≡ name → found ≡ look text → found ≡ answer → look name ≡ answer
+found_of look text name found answer same is e = ap look (sym same) ∙ sym is ∙ e
+
+module _ (text : List Item) (G : Globals) (L : Locals) (name : List ℕ) (at : ℕ) where
+  -- the fault of a name where data is wanted, by what it stands for
+  pub value_fails : (called : Bool) (kind : ScopeKind) (end : ScopeEnd) → end ≡ Fault kind at → value_fault text G L name called ≡ Some kind → Fails (broken_or at (value_fault text G L name called) None) end
+  value_fails called kind end e fault = rw (e, fault) refl
+
+  -- the fault of a name in a function argument's place
+  pub function_fails : (called : Bool) (kind : ScopeKind) (end : ScopeEnd) → end ≡ Fault kind at → function_fault text G L name called ≡ Some kind → Fails (broken_or at (function_fault text G L name called) None) end
+  function_fails called kind end e fault = rw (e, fault) refl
+
+  -- a local that is not called
+  pub as_local : (called : Bool) (local : Local) → local_of L name ≡ Some local → value_fault text G L name called ≡ value_fault_at (declares_lower text name) (Some local) (meaning_of G name) called
+  as_local called local is = rw is refl
+
+  -- a name that is no local
+  pub as_global : (called : Bool) (meaning : Option Meaning) → local_of L name ≡ None → meaning_of G name ≡ meaning → value_fault text G L name called ≡ value_fault_at (declares_lower text name) None meaning called
+  as_global called meaning none is = rw (none, is) refl
+
+  -- the same in a function argument's place
+  pub as_local_function : (called : Bool) (local : Local) → local_of L name ≡ Some local → function_fault text G L name called ≡ function_fault_at (declares_lower text name) L (Some local) (meaning_of G name) called
+  as_local_function called local is = rw is refl
+
+  pub as_global_function : (called : Bool) (meaning : Option Meaning) → local_of L name ≡ None → meaning_of G name ≡ meaning → function_fault text G L name called ≡ function_fault_at (declares_lower text name) L None meaning called
+  as_global_function called meaning none is = rw (none, is) refl
