@@ -1,1 +1,4 @@
 mod NameFacts
+mod OneType
+mod OneTerm
+mod OneProgram
