@@ -1,4 +1,7 @@
 mod Firsts
 mod LookupSteps
 mod NameFacts
+mod OneProgram
+mod OneTerm
+mod OneType
 mod TypeSteps

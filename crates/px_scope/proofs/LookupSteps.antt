@@ -45,3 +45,15 @@ module _ (text : List Item) (G : Globals) (L : Locals) (name : List ℕ) (at : �
 
   pub as_global_function : (called : Bool) (meaning : Option Meaning) → local_of L name ≡ None → meaning_of G name ≡ meaning → function_fault text G L name called ≡ function_fault_at (declares_lower text name) L None meaning called
   as_global_function called meaning none is = rw (none, is) refl
+
+-- what is declared at the top and stands for something is no data
+pub some_value_fault : (declared : Bool) (meaning : Meaning) → value_fault_at declared None (Some meaning) false ≡ Some WrongPlace
+some_value_fault declared Wle = refl
+some_value_fault declared Weq = refl
+some_value_fault declared (Definition n functions) = refl
+some_value_fault declared Lemma = refl
+some_value_fault declared Replica = refl
+
+-- the rule that a name breaks which was not declared before
+pub absent_is : (items : List Item) (name text : List ℕ) (declared : Bool) (kind : ScopeKind) → text ≡ name → declared ≡ declares_lower items text → kind ≡ absent declared → absent (declares_lower items name) ≡ kind
+absent_is items name text declared kind same is e = sym (e ∙ ap absent (is ∙ ap (declares_lower items) same))
