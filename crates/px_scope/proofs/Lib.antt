@@ -4,4 +4,5 @@ mod NameFacts
 mod OneProgram
 mod OneTerm
 mod OneType
+mod TypeNames
 mod TypeSteps

@@ -1,7 +1,7 @@
 //! What names stand for at their places, or the first rule that they break there.
 ghost use Rattle.std.specs.Prelude.{◌≡◌, true, false, None};
-ghost use Rattle.px_scope.specs.Standing.{constructor_of, head_of, head_of_meaning, nothing_local};
-ghost use Rattle.px_scope.specs.Rules.{absent, is_own, constructor_fault, value_fault, function_fault, global_function_fault, constructor_argument_fault, from_fault, claim_fault, merge_fault};
+ghost use Rattle.px_scope.specs.Standing.{constructor_of, head_of, head_of_local, head_of_meaning, nothing_local};
+ghost use Rattle.px_scope.specs.Rules.{absent, is_own, constructor_fault, value_fault, function_fault, local_function_fault, global_function_fault, constructor_argument_fault, from_fault, claim_fault, merge_fault};
 ghost use Rattle.px_scope.specs.Uses.{broken_or};
 ghost use Rattle.px_scope.specs.Answers.{Fails, Finds, IsVariable, IsCalled, IsClaimed};
 
@@ -134,8 +134,7 @@ pub(crate) fn find_function(
     ensures { Finds name.now.at (function_fault text.now globals.now locals.now name.now.text called) (λ head. head_of globals.now locals.now name.now.text ≡ Some head) result }
 {
     match locals.find(name.text.as_str()) {
-        Some(Local::Function(number)) if !called => Ok(Head::FnVar(number)),
-        Some(_) => Err(fault(ScopeKind::WrongPlace, name.at)),
+        Some(local) => find_local_function(local, name.at, called),
         None => match globals.meaning(name.text.as_str()) {
             None => {
                 let kind = absent_kind(declares_lower(text, name.text.as_str()));
@@ -143,6 +142,22 @@ pub(crate) fn find_function(
             }
             Some(meaning) => find_global_function(locals, meaning, name.at, called),
         },
+    }
+}
+
+/// The function that this local is in a function argument's place, at this place of the text.
+fn find_local_function(local: Local, at: u32, called: bool) -> Result<Head, ScopeEnd>
+    ensures { Finds at (local_function_fault local called) (λ head. head_of_local local ≡ Some head) result }
+{
+    match local {
+        Local::Function(number) => {
+            if called {
+                return Err(fault(ScopeKind::WrongPlace, at));
+            }
+            Ok(Head::FnVar(number))
+        }
+        Local::Value(_) => Err(fault(ScopeKind::WrongPlace, at)),
+        Local::Pattern(_) => Err(fault(ScopeKind::WrongPlace, at)),
     }
 }
 

@@ -141,7 +141,7 @@ fn resolve_item(
     ensures { Resolves (item_uses text.now globals.old item.now) (λ _. IsNext globals.old program.old item.now program.new × (globals.new ≡ after globals.old item.now)) result }
 {
     match item {
-        Item::Datatype(data) => add_data(alloc, text, globals, program, data),
+        Item::Datatype(datatype) => add_datatype(alloc, text, globals, program, datatype),
         Item::Definition(definition) => {
             let raw = resolve_definition(alloc, text, globals, definition)?;
             let number = program.defs.len() as u32;
@@ -180,24 +180,24 @@ fn resolve_item(
 }
 
 /// Adds a datatype to the program, and to what is declared. It takes memory.
-fn add_data(
+fn add_datatype(
     alloc: Global,
     text: &[Item],
     globals: &mut Globals,
     program: &mut RawProgram,
-    data: &SData,
+    datatype: &SData,
 ) -> Result<(), ScopeEnd>
-    requires small { IsSmallItem (items.Datatype data.now) }
+    requires small { IsSmallItem (items.Datatype datatype.now) }
     requires room { HasRoom globals.old program.old }
-    ensures { Resolves (item_uses text.now globals.old (items.Datatype data.now)) (λ _. IsNext globals.old program.old (items.Datatype data.now) program.new × (globals.new ≡ after globals.old (items.Datatype data.now))) result }
+    ensures { Resolves (item_uses text.now globals.old (items.Datatype datatype.now)) (λ _. IsNext globals.old program.old (items.Datatype datatype.now) program.new × (globals.new ≡ after globals.old (items.Datatype datatype.now))) result }
 {
-    let raw = resolve_data(alloc, text, globals, data)?;
+    let raw = resolve_data(alloc, text, globals, datatype)?;
     let number = program.datatypes.len() as u32;
     program.order.push(Decl::Datatype(number))?;
     program.datatypes.push(raw)?;
-    let name = copy_text(alloc, data.name.text.as_str())?;
+    let name = copy_text(alloc, datatype.name.text.as_str())?;
     program.names.datatypes.push(name)?;
-    let names = copy_names(alloc, data.cons.as_slice())?;
+    let names = copy_names(alloc, datatype.cons.as_slice())?;
     program.names.cons.push(names)?;
     Ok(())
 }

@@ -2,6 +2,7 @@ use Rattle.std.proofs.Common.{sym, ap, ◌∙◌, refl, Some, None, false}
 use Rattle.px_scope.specs.declared.ends.ScopeKind.TheVariants.{WrongPlace}
 use Rattle.px_scope.specs.declared.locals.Local.TheVariants.{Function}
 use Rattle.px_scope.specs.Standing.{local_of, meaning_of}
+use Rattle.px_scope.specs.Later.{declares_lower}
 use Rattle.px_scope.proofs.LookupSteps.{found_of, value_fails, as_local, as_global, some_value_fault, absent_is}
 use Rattle.px_scope.proofs.lookups.find_variable.Goals as goal
 
@@ -17,7 +18,7 @@ returns-in-Some c =
     (as_global c.args.text.now c.args.globals.now c.args.locals.now c.args.name.now.text c.args.name.now.at false (Some c.in-Some.field-0)
       (found_of (local_of c.args.locals.now) c.as_str.result.now c.args.name.now.text c.find.result None c.as_str.ensures c.find.ensures c.in-None.is)
       (found_of (meaning_of c.args.globals.now) c.as_str-in-None.result.now c.args.name.now.text c.meaning.result (Some c.in-Some.field-0) c.as_str-in-None.ensures c.meaning.ensures c.in-Some.is)
-    ∙ some_value_fault _ c.in-Some.field-0)
+    ∙ some_value_fault (declares_lower c.args.text.now c.args.name.now.text) c.in-Some.field-0)
 
 pub returns-in-None-meaning : goal.returns-in-None-meaning
 returns-in-None-meaning c =
