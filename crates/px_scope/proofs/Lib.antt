@@ -1,3 +1,5 @@
 mod Firsts
 mod NameFacts
+mod PropertySteps
+mod StateSteps
 mod TypeSteps
