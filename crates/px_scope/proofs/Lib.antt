@@ -1,5 +1,6 @@
 mod Firsts
 mod NameFacts
+mod ParameterSteps
 mod PropertySteps
 mod StateSteps
 mod TypeSteps
