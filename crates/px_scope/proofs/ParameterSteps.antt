@@ -1,8 +1,16 @@
 -- Type parameters and parameters, one after the other.
-use Rattle.std.proofs.Common.{◌≡◌, ℕ, ◌+◌, ◌<◌, ◌≤◌, Bool, true, false, not, ◌||◌, List, [], ◌∷◌, ◌++◌, length, take, get_or, None, refl, sym, ap, ◌∙◌}
+use Rattle.std.proofs.Common.{◌≡◌, ℕ, ◌+◌, ◌<◌, ◌≤◌, Bool, true, false, not, ◌||◌, List, [], ◌∷◌, ◌++◌, length, take, get_or, None, Result, refl, sym, ap, ◌∙◌, subst}
 use Rattle.std.specs.Prelude.{if◌then◌else◌}
 use Rattle.std.specs.List.{fold}
+use Rattle.std.specs.Result.{IsErrAnd}
+use Rattle.px_terms.specs.declared.types.Prop.{Prop}
+use Rattle.px_terms.specs.declared.raw.RawProp.{RawProp}
+use Rattle.px_terms.specs.declared.raw.RawTy.{RawTy}
+use Rattle.px_terms.specs.declared.raw.RawFnType.{RawFnType}
+use Rattle.px_parser.specs.declared.surface.Item.{Item}
 use Rattle.px_parser.specs.declared.surface.Name.{Name}
+use Rattle.px_parser.specs.declared.surface.SType.{SType}
+use Rattle.px_parser.specs.declared.surface.SFnType.{SFnType}
 use Rattle.px_scope.specs.declared.ends.ScopeKind.TheVariants.{Repeated}
 use Rattle.px_scope.specs.declared.ends.ScopeEnd.{ScopeEnd}
 use Rattle.px_scope.specs.declared.ends.ScopeEnd.TheVariants.{Fault}
@@ -10,10 +18,13 @@ use Rattle.px_scope.specs.declared.globals.Globals.{Globals}
 use Rattle.px_scope.specs.declared.locals.TypeLocals.{TypeLocals}
 use Rattle.px_scope.specs.Names.{is_name}
 use Rattle.px_scope.specs.Rules.{is_type_name, new_parameter_fault}
-use Rattle.px_scope.specs.Uses.{Use, use_of, first_broken}
+use Rattle.px_scope.specs.Uses.{Use, use_of, first_broken, type_uses, types_uses, properties_uses}
 use Rattle.px_scope.specs.Declaring.{with_type_parameter}
-use Rattle.px_scope.specs.ItemUses.{type_parameters_uses}
-use Rattle.px_scope.specs.Answers.{Fails, Fine}
+use Rattle.px_scope.specs.Numbers.{IsType, AreTypes}
+use Rattle.px_scope.specs.Programs.{IsFnType}
+use Rattle.px_scope.specs.ItemUses.{type_parameters_uses, fn_type_uses}
+use Rattle.px_scope.specs.Answers.{Fails, Fine, Resolves}
+use Rattle.px_scope.proofs.Firsts.{fine_both, fails_front, fails_back, passed_on}
 use Rattle.px_scope.proofs.StateSteps.{Reached, reached_next, reached_broken, reached_all}
 
 -- the use of one type parameter more
@@ -47,3 +58,33 @@ pub type_parameters_all : (G : Globals) (T : TypeLocals) (names : List Name) (i 
 type_parameters_all G T names i now ends reached =
     let all = reached_all with_type_parameter (type_parameter_use G) T names i now ends reached in
     (all.fine, all.is)
+
+module _ (text : List Item) (G : Globals) (T : TypeLocals) (f : SFnType) where
+  -- the types of a function type's parameters fail
+  pub fn_type_params_fail : {Z : Type 0} (Is : Z → Type 0) (ss : List SType) (r : Result Z ScopeEnd) (end : ScopeEnd) → IsErrAnd r (λ e. e ≡ end) → ss ≡ f.params → Fails (first_broken (types_uses text G T ss)) end → Resolves (fn_type_uses text G T f) Is r
+  fn_type_params_fail Is ss r end is same fails =
+      passed_on Is (fn_type_uses text G T f) r end is (fails_front (types_uses text G T f.params) (type_uses text G T f.result ++ properties_uses [] f.props) end (subst (λ ts. Fails (first_broken (types_uses text G T ts)) end) same fails))
+
+  -- its result's type fails
+  pub fn_type_result_fails : {Z : Type 0} (Is : Z → Type 0) (ss : List SType) (r : Result Z ScopeEnd) (end : ScopeEnd) → IsErrAnd r (λ e. e ≡ end) → ss ≡ f.params → first_broken (types_uses text G T ss) ≡ None → Fails (first_broken (type_uses text G T f.result)) end → Resolves (fn_type_uses text G T f) Is r
+  fn_type_result_fails Is ss r end is same fine fails =
+      passed_on Is (fn_type_uses text G T f) r end is (fails_back (types_uses text G T f.params) (type_uses text G T f.result ++ properties_uses [] f.props) end (subst (λ ts. first_broken (types_uses text G T ts) ≡ None) same fine) (fails_front (type_uses text G T f.result) (properties_uses [] f.props) end fails))
+
+  -- its properties fail
+  pub fn_type_props_fail : {Z : Type 0} (Is : Z → Type 0) (ss : List SType) (claimed : List Prop) (props : List RawProp) (r : Result Z ScopeEnd) (end : ScopeEnd) → IsErrAnd r (λ e. e ≡ end) → ss ≡ f.params → first_broken (types_uses text G T ss) ≡ None → first_broken (type_uses text G T f.result) ≡ None → claimed ≡ [] → props ≡ f.props → Fails (first_broken (properties_uses claimed props)) end → Resolves (fn_type_uses text G T f) Is r
+  fn_type_props_fail Is ss claimed props r end is same fine result_fine empty all fails =
+      let props_fail : Fails (first_broken (properties_uses [] f.props)) end = subst (λ ps. Fails (first_broken (properties_uses [] ps)) end) all (subst (λ cs. Fails (first_broken (properties_uses cs props)) end) empty fails) in
+      passed_on Is (fn_type_uses text G T f) r end is (fails_back (types_uses text G T f.params) (type_uses text G T f.result ++ properties_uses [] f.props) end (subst (λ ts. first_broken (types_uses text G T ts) ≡ None) same fine) (fails_back (type_uses text G T f.result) (properties_uses [] f.props) end result_fine props_fail))
+
+  -- a function type, where its parts are known
+  pub fn_type_fine : (ss : List SType) (ts : List RawTy) (t : RawTy) (claimed : List Prop) (props copied copy : List RawProp) → ss ≡ f.params → Fine (types_uses text G T ss) (AreTypes G T ss) ts → Fine (type_uses text G T f.result) (IsType G T f.result) t → claimed ≡ [] → props ≡ f.props → first_broken (properties_uses claimed props) ≡ None → copied ≡ f.props → copy ≡ copied → Fine (fn_type_uses text G T f) (IsFnType G T f) (record { params = ts; result = t; props = copy })
+  fn_type_fine ss ts t claimed props copied copy same (fine, are) (result_fine, is) empty all props_fine from copies =
+      let props_are_fine : first_broken (properties_uses [] f.props) ≡ None = subst (λ ps. first_broken (properties_uses [] ps) ≡ None) all (subst (λ cs. first_broken (properties_uses cs props) ≡ None) empty props_fine) in
+      let params_are_fine : first_broken (types_uses text G T f.params) ≡ None = subst (λ xs. first_broken (types_uses text G T xs) ≡ None) same fine in
+      (fine_both (types_uses text G T f.params) (type_uses text G T f.result ++ properties_uses [] f.props) params_are_fine (fine_both (type_uses text G T f.result) (properties_uses [] f.props) result_fine props_are_fine), record {
+        params = ts;
+        type = t;
+        are_params = subst (λ xs. AreTypes G T xs ts) same are;
+        is_result = is;
+        is = ap (λ (ps : List RawProp). record { params = ts; result = t; props = ps }) (copies ∙ from);
+      })
