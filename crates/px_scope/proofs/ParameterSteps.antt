@@ -1,8 +1,9 @@
 -- Type parameters and parameters, one after the other.
-use Rattle.std.proofs.Common.{◌≡◌, ℕ, ◌+◌, ◌<◌, ◌≤◌, Bool, true, false, not, ◌||◌, List, [], ◌∷◌, ◌++◌, length, take, get_or, None, Result, refl, sym, ap, ◌∙◌, subst}
+use Rattle.std.proofs.Common.{◌≡◌, ℕ, ◌+◌, ◌<◌, ◌≤◌, Bool, true, false, not, ◌||◌, List, [], ◌∷◌, ◌++◌, length, take, get_or, None, Result, refl, sym, ap, ◌∙◌, subst, arith}
 use Rattle.std.specs.Prelude.{if◌then◌else◌}
 use Rattle.std.specs.List.{fold}
 use Rattle.std.specs.Result.{IsErrAnd}
+use Rattle.std.proofs.lemmas.List.{take_more}
 use Rattle.px_terms.specs.declared.types.Prop.{Prop}
 use Rattle.px_terms.specs.declared.raw.RawProp.{RawProp}
 use Rattle.px_terms.specs.declared.raw.RawTy.{RawTy}
@@ -11,21 +12,24 @@ use Rattle.px_parser.specs.declared.surface.Item.{Item}
 use Rattle.px_parser.specs.declared.surface.Name.{Name}
 use Rattle.px_parser.specs.declared.surface.SType.{SType}
 use Rattle.px_parser.specs.declared.surface.SFnType.{SFnType}
+use Rattle.px_parser.specs.declared.surface.SParam.{SParam}
+use Rattle.px_parser.specs.declared.surface.SParamKind.TheVariants as param_kinds
 use Rattle.px_scope.specs.declared.ends.ScopeKind.TheVariants.{Repeated}
 use Rattle.px_scope.specs.declared.ends.ScopeEnd.{ScopeEnd}
 use Rattle.px_scope.specs.declared.ends.ScopeEnd.TheVariants.{Fault}
 use Rattle.px_scope.specs.declared.globals.Globals.{Globals}
 use Rattle.px_scope.specs.declared.locals.TypeLocals.{TypeLocals}
+use Rattle.px_scope.specs.declared.locals.Locals.{Locals}
 use Rattle.px_scope.specs.Names.{is_name}
-use Rattle.px_scope.specs.Rules.{is_type_name, new_parameter_fault}
-use Rattle.px_scope.specs.Uses.{Use, use_of, first_broken, type_uses, types_uses, properties_uses}
-use Rattle.px_scope.specs.Declaring.{with_type_parameter}
+use Rattle.px_scope.specs.Rules.{is_type_name, new_parameter_fault, new_value_fault, new_function_fault}
+use Rattle.px_scope.specs.Uses.{Use, use_of, first_broken, broken_or, type_uses, types_uses, properties_uses}
+use Rattle.px_scope.specs.Declaring.{with_type_parameter, with_parameter_of, with_parameter}
 use Rattle.px_scope.specs.Numbers.{IsType, AreTypes}
-use Rattle.px_scope.specs.Programs.{IsFnType}
-use Rattle.px_scope.specs.ItemUses.{type_parameters_uses, fn_type_uses}
+use Rattle.px_scope.specs.Programs.{IsFnType, AreParameters, none, value, function}
+use Rattle.px_scope.specs.ItemUses.{type_parameters_uses, fn_type_uses, parameter_uses_of, parameters_uses}
 use Rattle.px_scope.specs.Answers.{Fails, Fine, Resolves}
-use Rattle.px_scope.proofs.Firsts.{fine_both, fails_front, fails_back, passed_on}
-use Rattle.px_scope.proofs.StateSteps.{Reached, reached_next, reached_broken, reached_all}
+use Rattle.px_scope.proofs.Firsts.{fine_first, fine_both, fails_first, fails_later, fails_front, fails_back, passed_on}
+use Rattle.px_scope.proofs.StateSteps.{Reached, reached_next, reached_broken, reached_fails, reached_all}
 
 -- the use of one type parameter more
 abbrev pub type_parameter_use : Globals → TypeLocals → Name → List Use
@@ -88,3 +92,99 @@ module _ (text : List Item) (G : Globals) (T : TypeLocals) (f : SFnType) where
         is_result = is;
         is = ap (λ (ps : List RawProp). record { params = ts; result = t; props = ps }) (copies ∙ from);
       })
+
+-- the names in one parameter more
+abbrev pub parameter_use : List Item → Globals → Locals → SParam → List Use
+parameter_use text G L p = parameter_uses_of text G L p.name p.kind
+
+-- The first parameters, so many, break no rule, and are these functions and these values.
+pub record AreSoFar (text : List Item) (G : Globals) (L : Locals) (params : List SParam) (i : ℕ) (now : Locals) (funs : List RawFnType) (values : List RawTy) : Type 0 where
+  pub reached : Reached with_parameter (parameter_use text G) L (take i params) now
+  pub are : AreParameters G L.types (take i params) funs values
+  pub same_types : now.types ≡ L.types
+  pub few_functions : now.functions ≤ i
+  pub few_values : now.values ≤ i
+
+-- one function more
+pub parameters_push_function : (G : Globals) (T : TypeLocals) (ps : List SParam) (fs : List RawFnType) (ts : List RawTy) (p : SParam) (f : SFnType) (g : RawFnType) → AreParameters G T ps fs ts → p.kind ≡ param_kinds.Function f → IsFnType G T f g → AreParameters G T (ps ++ p ∷ []) (fs ++ g ∷ []) ts
+parameters_push_function G T _ _ _ p f g none kind is = function kind is none
+parameters_push_function G T _ _ _ p f g (value {ps = ps} {fs = fs} {ts = ts} first type others) kind is = value first type (parameters_push_function G T ps fs ts p f g others kind is)
+parameters_push_function G T _ _ _ p f g (function {ps = ps} {fs = fs} {ts = ts} first type others) kind is = function first type (parameters_push_function G T ps fs ts p f g others kind is)
+
+-- one value more
+pub parameters_push_value : (G : Globals) (T : TypeLocals) (ps : List SParam) (fs : List RawFnType) (ts : List RawTy) (p : SParam) (s : SType) (t : RawTy) → AreParameters G T ps fs ts → p.kind ≡ param_kinds.Value s → IsType G T s t → AreParameters G T (ps ++ p ∷ []) fs (ts ++ t ∷ [])
+parameters_push_value G T _ _ _ p s t none kind is = value kind is none
+parameters_push_value G T _ _ _ p s t (value {ps = ps} {fs = fs} {ts = ts} first type others) kind is = value first type (parameters_push_value G T ps fs ts p s t others kind is)
+parameters_push_value G T _ _ _ p s t (function {ps = ps} {fs = fs} {ts = ts} first type others) kind is = function first type (parameters_push_value G T ps fs ts p s t others kind is)
+
+module _ (text : List Item) (G : Globals) (L : Locals) (params : List SParam) (i : ℕ) (now : Locals) (funs : List RawFnType) (values : List RawTy) (p : SParam) (within : i < length params) (at : p ≡ get_or params i p) (so_far : AreSoFar text G L params i now funs values) where
+  one_more : take (i + 1) params ≡ take i params ++ p ∷ []
+  one_more = take_more params i p within ∙ ap (λ q. take i params ++ q ∷ []) (sym at)
+
+  module _ (f : SFnType) (kind : p.kind ≡ param_kinds.Function f) where
+    function_uses : parameter_use text G now p ≡ use_of p.name (new_function_fault now p.name.text) ∷ fn_type_uses text G now.types f
+    function_uses = ap (parameter_uses_of text G now p.name) kind
+
+    -- a function's name fails
+    pub function_name_fails : {Z : Type 0} (Is : Z → Type 0) (r : Result Z ScopeEnd) (end : ScopeEnd) → IsErrAnd r (λ e. e ≡ end) → Fails (broken_or p.name.at (new_function_fault now p.name.text) None) end → Resolves (parameters_uses text G L params) Is r
+    function_name_fails Is r end is fails =
+        reached_fails with_parameter (parameter_use text G) L params i now Is p r end within at so_far.reached is (subst (λ us. Fails (first_broken us) end) (sym function_uses) (fails_first p.name.at (new_function_fault now p.name.text) (fn_type_uses text G now.types f) end fails))
+
+    module _ (later : Locals) (fault : new_function_fault now p.name.text ≡ None) (is_later : later ≡ record now { names = now.names ++ p.name.text ∷ []; functions = now.functions + 1 }) where
+      function_types : later.types ≡ now.types
+      function_types = ap (λ (M : Locals). M.types) is_later
+
+      -- a function's type fails
+      pub function_type_fails : {Z : Type 0} (Is : Z → Type 0) (r : Result Z ScopeEnd) (end : ScopeEnd) → IsErrAnd r (λ e. e ≡ end) → Fails (first_broken (fn_type_uses text G later.types f)) end → Resolves (parameters_uses text G L params) Is r
+      function_type_fails Is r end is fails =
+          let here : Fails (first_broken (fn_type_uses text G now.types f)) end = subst (λ T. Fails (first_broken (fn_type_uses text G T f)) end) function_types fails in
+          reached_fails with_parameter (parameter_use text G) L params i now Is p r end within at so_far.reached is (subst (λ us. Fails (first_broken us) end) (sym function_uses) (fails_later p.name.at (new_function_fault now p.name.text) (fn_type_uses text G now.types f) end fault here))
+
+      -- one function more
+      pub function_next : (g : RawFnType) (out : List RawFnType) → Fine (fn_type_uses text G later.types f) (IsFnType G later.types f) g → out ≡ funs ++ g ∷ [] → AreSoFar text G L params (i + 1) later out values
+      function_next g out (fine, is) pushed = record {
+        reached = reached_next with_parameter (parameter_use text G) L params i now p later within at so_far.reached (subst (λ us. first_broken us ≡ None) (sym function_uses) (fine_first p.name.at (new_function_fault now p.name.text) (fn_type_uses text G now.types f) fault (subst (λ T. first_broken (fn_type_uses text G T f) ≡ None) function_types fine))) (is_later ∙ ap (with_parameter_of now p.name) (sym kind));
+        are = rw (one_more, pushed) (parameters_push_function G L.types (take i params) funs values p f g so_far.are kind (subst (λ T. IsFnType G T f g) (function_types ∙ so_far.same_types) is));
+        same_types = function_types ∙ so_far.same_types;
+        few_functions = rw is_later (omega (arith, so_far.few_functions));
+        few_values = rw is_later (omega (arith, so_far.few_values));
+      }
+
+  module _ (s : SType) (kind : p.kind ≡ param_kinds.Value s) where
+    value_uses : parameter_use text G now p ≡ use_of p.name (new_value_fault now p.name.text) ∷ type_uses text G now.types s
+    value_uses = ap (parameter_uses_of text G now p.name) kind
+
+    -- a value's name fails
+    pub value_name_fails : {Z : Type 0} (Is : Z → Type 0) (r : Result Z ScopeEnd) (end : ScopeEnd) → IsErrAnd r (λ e. e ≡ end) → Fails (broken_or p.name.at (new_value_fault now p.name.text) None) end → Resolves (parameters_uses text G L params) Is r
+    value_name_fails Is r end is fails =
+        reached_fails with_parameter (parameter_use text G) L params i now Is p r end within at so_far.reached is (subst (λ us. Fails (first_broken us) end) (sym value_uses) (fails_first p.name.at (new_value_fault now p.name.text) (type_uses text G now.types s) end fails))
+
+    module _ (later : Locals) (fault : new_value_fault now p.name.text ≡ None) (is_later : later ≡ record now { names = now.names ++ p.name.text ∷ []; values = now.values + 1 }) where
+      value_types : later.types ≡ now.types
+      value_types = ap (λ (M : Locals). M.types) is_later
+
+      -- a value's type fails
+      pub value_type_fails : {Z : Type 0} (Is : Z → Type 0) (r : Result Z ScopeEnd) (end : ScopeEnd) → IsErrAnd r (λ e. e ≡ end) → Fails (first_broken (type_uses text G later.types s)) end → Resolves (parameters_uses text G L params) Is r
+      value_type_fails Is r end is fails =
+          let here : Fails (first_broken (type_uses text G now.types s)) end = subst (λ T. Fails (first_broken (type_uses text G T s)) end) value_types fails in
+          reached_fails with_parameter (parameter_use text G) L params i now Is p r end within at so_far.reached is (subst (λ us. Fails (first_broken us) end) (sym value_uses) (fails_later p.name.at (new_value_fault now p.name.text) (type_uses text G now.types s) end fault here))
+
+      -- one value more
+      pub value_next : (t : RawTy) (out : List RawTy) → Fine (type_uses text G later.types s) (IsType G later.types s) t → out ≡ values ++ t ∷ [] → AreSoFar text G L params (i + 1) later funs out
+      value_next t out (fine, is) pushed = record {
+        reached = reached_next with_parameter (parameter_use text G) L params i now p later within at so_far.reached (subst (λ us. first_broken us ≡ None) (sym value_uses) (fine_first p.name.at (new_value_fault now p.name.text) (type_uses text G now.types s) fault (subst (λ T. first_broken (type_uses text G T s) ≡ None) value_types fine))) (is_later ∙ ap (with_parameter_of now p.name) (sym kind));
+        are = rw (one_more, pushed) (parameters_push_value G L.types (take i params) funs values p s t so_far.are kind (subst (λ T. IsType G T s t) (value_types ∙ so_far.same_types) is));
+        same_types = value_types ∙ so_far.same_types;
+        few_functions = rw is_later (omega (arith, so_far.few_functions));
+        few_values = rw is_later (omega (arith, so_far.few_values));
+      }
+
+-- no parameters
+pub no_parameters_yet : (text : List Item) (G : Globals) (L : Locals) (params : List SParam) (funs : List RawFnType) (values : List RawTy) → L.functions ≡ 0 → L.values ≡ 0 → funs ≡ [] → values ≡ [] → AreSoFar text G L params 0 L funs values
+no_parameters_yet text G L params funs values no_functions no_values no_funs no_types = record {
+  reached = record { fine = refl; is = refl };
+  are = rw (no_funs, no_types) none;
+  same_types = refl;
+  few_functions = omega (arith, no_functions);
+  few_values = omega (arith, no_values);
+}
