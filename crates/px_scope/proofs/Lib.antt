@@ -1,3 +1,4 @@
+mod DataSteps
 mod Firsts
 mod NameFacts
 mod ParameterSteps
