@@ -1,15 +1,18 @@
 -- The constructors of a datatype, one after the other, and what they leave as it is.
-use Rattle.std.proofs.Common.{◌≡◌, ℕ, ◌+◌, ◌<◌, ◌≤◌, Bool, true, false, not, List, [], ◌∷◌, ◌++◌, length, take, get_or, None, Some, Result, refl, sym, ap, ◌∙◌, subst}
+use Rattle.std.proofs.Common.{◌≡◌, ℕ, ◌+◌, ◌<◌, ◌≤◌, Bool, true, false, not, ◌||◌, List, [], ◌∷◌, ◌++◌, length, take, get_or, None, Some, Result, refl, sym, ap, ◌∙◌, subst}
 use Rattle.std.specs.Prelude.{if◌then◌else◌}
 use Rattle.std.specs.List.{fold}
 use Rattle.std.specs.Result.{IsErrAnd}
 use Rattle.std.proofs.lemmas.List.{take_more, take_all}
 use Rattle.px_terms.specs.declared.raw.RawTy.{RawTy}
 use Rattle.px_terms.specs.declared.raw.RawCon.{RawCon}
+use Rattle.px_terms.specs.declared.raw.RawData.{RawData}
 use Rattle.px_parser.specs.declared.surface.Item.{Item}
 use Rattle.px_parser.specs.declared.surface.Name.{Name}
 use Rattle.px_parser.specs.declared.surface.SType.{SType, out-SType}
 use Rattle.px_parser.specs.declared.surface.SCon.{SCon}
+use Rattle.px_parser.specs.declared.surface.SData.{SData}
+use Rattle.px_parser.specs.declared.surface.Item.TheVariants as items
 use Rattle.px_scope.specs.declared.ends.ScopeKind.TheVariants.{Repeated}
 use Rattle.px_scope.specs.declared.ends.ScopeEnd.{ScopeEnd}
 use Rattle.px_scope.specs.declared.ends.ScopeEnd.TheVariants.{Fault}
@@ -17,15 +20,16 @@ use Rattle.px_scope.specs.declared.globals.Constructor.{Constructor}
 use Rattle.px_scope.specs.declared.globals.Globals.{Globals}
 use Rattle.px_scope.specs.declared.locals.TypeLocals.{TypeLocals}
 use Rattle.px_scope.specs.Names.{is_name}
-use Rattle.px_scope.specs.Standing.{type_of}
-use Rattle.px_scope.specs.Rules.{new_constructor_fault}
+use Rattle.px_scope.specs.Standing.{type_of, no_parameters}
+use Rattle.px_scope.specs.Rules.{is_type_name, new_type_fault, new_constructor_fault}
 use Rattle.px_scope.specs.Uses.{Use, use_of, first_broken, along, type_uses, types_uses}
 use Rattle.px_scope.specs.Numbers.{IsType, written, AreTypes, none, more}
-use Rattle.px_scope.specs.Declaring.{with_constructor, with_constructors}
-use Rattle.px_scope.specs.ItemUses.{constructor_uses, constructors_uses}
-use Rattle.px_scope.specs.Programs.{AreConstructors, none as no_constructors, more as more_constructors}
+use Rattle.px_scope.specs.Declaring.{with_datatype, with_constructor, with_constructors, after, with_type_parameter, type_locals, data_locals}
+use Rattle.px_scope.specs.ItemUses.{type_parameters_uses, constructor_uses, constructors_uses, data_uses}
+use Rattle.px_scope.specs.Programs.{IsData, AreConstructors, none as no_constructors, more as more_constructors}
 use Rattle.px_scope.specs.Answers.{Fails, Fine, Resolves}
-use Rattle.px_scope.proofs.Firsts.{fine_first, fails_first, fails_later}
+use Rattle.px_scope.proofs.Firsts.{fine_first, fine_both, fails_later, fails_front, fails_back, passed_on}
+use Rattle.px_scope.proofs.ParameterSteps.{type_locals_are}
 use Rattle.px_scope.proofs.StateSteps.{Reached, reached_next, reached_broken, reached_fails, reached_all}
 
 module _ (G H : Globals) (T : TypeLocals) (same : H.datatypes ≡ G.datatypes) where
@@ -134,3 +138,58 @@ pub constructors_all : (text : List Item) (datatype : ℕ) (G : Globals) (T : Ty
 constructors_all text datatype G T cons i now raws ends so_far =
     let all : Reached (counted_next datatype) (counted_uses text T) (record { number = 0; globals = G }) cons (record { number = i; globals = now }) = reached_all (counted_next datatype) (counted_uses text T) (record { number = 0; globals = G }) cons i (record { number = i; globals = now }) ends so_far.reached in
     (ap first_broken (sym (counted_along text datatype 0 G T cons)) ∙ all.fine, (subst (λ cs. AreConstructors G T cs raws) (take_all i cons ends) so_far.are, ap (λ (C : Counted). C.globals) all.is ∙ counted_fold datatype 0 G cons))
+
+one_fails : (a b : Bool) → (a || b) ≡ false → b ≡ false
+one_fails true b e = cc
+one_fails false b e = e
+
+is_so : (b : Bool) → not b ≡ false → b ≡ true
+is_so true e = refl
+is_so false e = cc
+
+-- what is declared with one datatype more, which has a new name
+pub datatype_added : (G : Globals) (name : Name) (first second : List ℕ) (known is_new : Bool) (added : List (List ℕ)) → first ≡ name.text → second ≡ name.text → known ≡ is_type_name G first → known ≡ false → is_name G.datatypes second ≡ not is_new → added ≡ (if is_new then G.datatypes ++ second ∷ [] else G.datatypes) → record G { datatypes = added } ≡ with_datatype G name
+datatype_added G name first second known is_new added one two is no_type is_old add =
+    let untyped : is_type_name G name.text ≡ false = ap (is_type_name G) (sym one) ∙ sym is ∙ no_type in
+    let unnamed : is_name G.datatypes name.text ≡ false = one_fails _ _ untyped in
+    let new : is_new ≡ true = is_so is_new (sym is_old ∙ ap (is_name G.datatypes) two ∙ unnamed) in
+    let here : added ≡ G.datatypes ++ name.text ∷ [] = rw (add, new, two) refl in
+    ap (λ (ds : List (List ℕ)). record G { datatypes = ds }) here
+
+module _ (text : List Item) (G : Globals) (d : SData) (first : List ℕ) (known : Bool) (one : first ≡ d.name.text) (is : known ≡ is_type_name G first) (no_type : known ≡ false) where
+  new_type : new_type_fault G d.name.text ≡ None
+  new_type =
+      let untyped : is_type_name G d.name.text ≡ false = ap (is_type_name G) (sym one) ∙ sym is ∙ no_type in
+      rw untyped refl
+
+  module _ (H : Globals) (U : TypeLocals) (names : List Name) (H_is : H ≡ with_datatype G d.name) (U_is : U ≡ no_parameters) (names_are : names ≡ d.tparams) where
+    params_uses : type_parameters_uses H U names ≡ type_parameters_uses (with_datatype G d.name) no_parameters d.tparams
+    params_uses = rw (H_is, U_is, names_are) refl
+
+    -- the type parameters of a datatype fail
+    pub data_tparams_fail : {Z : Type 0} (Is : Z → Type 0) (r : Result Z ScopeEnd) (end : ScopeEnd) → IsErrAnd r (λ e. e ≡ end) → Fails (first_broken (type_parameters_uses H U names)) end → Resolves (data_uses text G d) Is r
+    data_tparams_fail Is r end is_end fails =
+        passed_on Is (data_uses text G d) r end is_end (fails_later d.name.at (new_type_fault G d.name.text) (type_parameters_uses (with_datatype G d.name) no_parameters d.tparams ++ constructors_uses text (length G.datatypes) 0 (with_datatype G d.name) (data_locals (length G.datatypes) d.tparams) d.cons) end new_type (fails_front (type_parameters_uses (with_datatype G d.name) no_parameters d.tparams) (constructors_uses text (length G.datatypes) 0 (with_datatype G d.name) (data_locals (length G.datatypes) d.tparams) d.cons) end (subst (λ us. Fails (first_broken us) end) params_uses fails)))
+
+    module _ (V : TypeLocals) (number : ℕ) (cons : List SCon) (params_fine : first_broken (type_parameters_uses H U names) ≡ None) (V_is : V ≡ fold with_type_parameter U names) (number_is : number ≡ length G.datatypes) (cons_are : cons ≡ d.cons) where
+      locals_are : record V { own = Some number } ≡ data_locals (length G.datatypes) d.tparams
+      locals_are =
+          let V_are : V ≡ type_locals d.tparams = V_is ∙ (rw (U_is, names_are) refl) ∙ type_locals_are d.tparams in
+          rw (V_are, number_is) refl
+
+      cons_uses : constructors_uses text number 0 H (record V { own = Some number }) cons ≡ constructors_uses text (length G.datatypes) 0 (with_datatype G d.name) (data_locals (length G.datatypes) d.tparams) d.cons
+      cons_uses = rw (locals_are, number_is, H_is, cons_are) refl
+
+      -- the constructors of a datatype fail
+      pub data_cons_fail : {Z : Type 0} (Is : Z → Type 0) (r : Result Z ScopeEnd) (end : ScopeEnd) → IsErrAnd r (λ e. e ≡ end) → Fails (first_broken (constructors_uses text number 0 H (record V { own = Some number }) cons)) end → Resolves (data_uses text G d) Is r
+      data_cons_fail Is r end is_end fails =
+          passed_on Is (data_uses text G d) r end is_end (fails_later d.name.at (new_type_fault G d.name.text) (type_parameters_uses (with_datatype G d.name) no_parameters d.tparams ++ constructors_uses text (length G.datatypes) 0 (with_datatype G d.name) (data_locals (length G.datatypes) d.tparams) d.cons) end new_type (fails_back (type_parameters_uses (with_datatype G d.name) no_parameters d.tparams) (constructors_uses text (length G.datatypes) 0 (with_datatype G d.name) (data_locals (length G.datatypes) d.tparams) d.cons) end (ap first_broken (sym params_uses) ∙ params_fine) (subst (λ us. Fails (first_broken us) end) cons_uses fails)))
+
+      -- a datatype, where its parts are known
+      pub data_fine : (raws : List RawCon) (later : Globals) (count : ℕ) (raw : RawData) → first_broken (constructors_uses text number 0 H (record V { own = Some number }) cons) ≡ None → AreConstructors H (record V { own = Some number }) cons raws → later ≡ with_constructors number 0 H cons → count ≡ length d.tparams → raw ≡ record { at = d.name.at; tparams = count; cons = raws } → Fine (data_uses text G d) (λ (result : RawData). IsData G d result × (later ≡ after G (items.Datatype d))) raw
+      data_fine raws later count raw cons_fine are is_later counted raw_is =
+          (fine_first d.name.at (new_type_fault G d.name.text) (type_parameters_uses (with_datatype G d.name) no_parameters d.tparams ++ constructors_uses text (length G.datatypes) 0 (with_datatype G d.name) (data_locals (length G.datatypes) d.tparams) d.cons) new_type (fine_both (type_parameters_uses (with_datatype G d.name) no_parameters d.tparams) (constructors_uses text (length G.datatypes) 0 (with_datatype G d.name) (data_locals (length G.datatypes) d.tparams) d.cons) (ap first_broken (sym params_uses) ∙ params_fine) (ap first_broken (sym cons_uses) ∙ cons_fine)), (record {
+            cons = raws;
+            are_constructors = subst (λ cs. AreConstructors (with_datatype G d.name) (data_locals (length G.datatypes) d.tparams) cs raws) cons_are (subst (λ K. AreConstructors K (data_locals (length G.datatypes) d.tparams) cons raws) H_is (subst (λ W. AreConstructors H W cons raws) locals_are are));
+            is = raw_is ∙ ap (λ (n : ℕ). record { at = d.name.at; tparams = n; cons = raws }) counted;
+          }, is_later ∙ (rw (number_is, H_is, cons_are) refl)))

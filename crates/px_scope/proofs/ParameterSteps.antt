@@ -1,9 +1,9 @@
 -- Type parameters and parameters, one after the other.
-use Rattle.std.proofs.Common.{◌≡◌, ℕ, ◌+◌, ◌<◌, ◌≤◌, Bool, true, false, not, ◌||◌, List, [], ◌∷◌, ◌++◌, length, take, get_or, None, Result, refl, sym, ap, ◌∙◌, subst, arith}
+use Rattle.std.proofs.Common.{◌≡◌, ℕ, ◌+◌, ◌<◌, ◌≤◌, Bool, true, false, not, ◌||◌, List, [], ◌∷◌, ◌++◌, length, take, get_or, None, Result, refl, sym, ap, ◌∙◌, subst, append_assoc, arith}
 use Rattle.std.specs.Prelude.{if◌then◌else◌}
 use Rattle.std.specs.List.{fold}
 use Rattle.std.specs.Result.{IsErrAnd}
-use Rattle.std.proofs.lemmas.List.{take_more}
+use Rattle.std.proofs.lemmas.List.{take_more, append-nil}
 use Rattle.px_terms.specs.declared.types.Prop.{Prop}
 use Rattle.px_terms.specs.declared.raw.RawProp.{RawProp}
 use Rattle.px_terms.specs.declared.raw.RawTy.{RawTy}
@@ -21,9 +21,10 @@ use Rattle.px_scope.specs.declared.globals.Globals.{Globals}
 use Rattle.px_scope.specs.declared.locals.TypeLocals.{TypeLocals}
 use Rattle.px_scope.specs.declared.locals.Locals.{Locals}
 use Rattle.px_scope.specs.Names.{is_name}
+use Rattle.px_scope.specs.Standing.{no_parameters}
 use Rattle.px_scope.specs.Rules.{is_type_name, new_parameter_fault, new_value_fault, new_function_fault}
 use Rattle.px_scope.specs.Uses.{Use, use_of, first_broken, broken_or, type_uses, types_uses, properties_uses}
-use Rattle.px_scope.specs.Declaring.{with_type_parameter, with_parameter_of, with_parameter}
+use Rattle.px_scope.specs.Declaring.{texts, type_locals, with_type_parameter, with_parameter_of, with_parameter}
 use Rattle.px_scope.specs.Numbers.{IsType, AreTypes}
 use Rattle.px_scope.specs.Programs.{IsFnType, AreParameters, none, value, function}
 use Rattle.px_scope.specs.ItemUses.{type_parameters_uses, fn_type_uses, parameter_uses_of, parameters_uses}
@@ -188,3 +189,12 @@ no_parameters_yet text G L params funs values no_functions no_values no_funs no_
   few_functions = omega (arith, no_functions);
   few_values = omega (arith, no_values);
 }
+
+-- type parameters, and then those of the list
+pub type_parameters_are : (T : TypeLocals) (names : List Name) → fold with_type_parameter T names ≡ record T { parameters = T.parameters ++ texts names }
+type_parameters_are T [] = ap (λ (ps : List (List ℕ)). record T { parameters = ps }) (rw append-nil refl)
+type_parameters_are T (name ∷ names) = type_parameters_are (with_type_parameter T name) names ∙ ap (λ (ps : List (List ℕ)). record T { parameters = ps }) (append_assoc T.parameters (name.text ∷ []) (texts names))
+
+-- what is local with type parameters alone
+pub type_locals_are : (names : List Name) → fold with_type_parameter no_parameters names ≡ type_locals names
+type_locals_are names = type_parameters_are no_parameters names
