@@ -22,7 +22,7 @@ use Rattle.px_scope.specs.declared.locals.TypeLocals.{TypeLocals}
 use Rattle.px_scope.specs.Names.{is_name}
 use Rattle.px_scope.specs.Standing.{type_of, no_parameters}
 use Rattle.px_scope.specs.Rules.{is_type_name, new_type_fault, new_constructor_fault}
-use Rattle.px_scope.specs.Uses.{Use, use_of, first_broken, along, type_uses, types_uses}
+use Rattle.px_scope.specs.Uses.{Use, first_broken, along, type_uses, types_uses}
 use Rattle.px_scope.specs.Numbers.{IsType, written, AreTypes, none, more}
 use Rattle.px_scope.specs.Declaring.{with_datatype, with_constructor, with_constructors, after, with_type_parameter, type_locals, data_locals}
 use Rattle.px_scope.specs.ItemUses.{type_parameters_uses, constructor_uses, constructors_uses, data_uses}
@@ -75,7 +75,7 @@ counted_fold datatype number G [] = refl
 counted_fold datatype number G (con ∷ cons) = counted_fold datatype (number + 1) (with_constructor datatype number G con) cons
 
 -- The first constructors, so many, break no rule, and are these.
-pub record AreSoFar (text : List Item) (datatype : ℕ) (G : Globals) (T : TypeLocals) (cons : List SCon) (i : ℕ) (now : Globals) (raws : List RawCon) : Type 0 where
+pub record AreConstructorsSoFar (text : List Item) (datatype : ℕ) (G : Globals) (T : TypeLocals) (cons : List SCon) (i : ℕ) (now : Globals) (raws : List RawCon) : Type 0 where
   pub reached : Reached (counted_next datatype) (counted_uses text T) (record { number = 0; globals = G }) (take i cons) (record { number = i; globals = now })
   pub are : AreConstructors G T (take i cons) raws
   pub same_datatypes : now.datatypes ≡ G.datatypes
@@ -85,7 +85,7 @@ pub constructors_push : (G : Globals) (T : TypeLocals) (cons : List SCon) (raws 
 constructors_push G T _ _ con fields raw no_constructors are is = more_constructors are is no_constructors
 constructors_push G T _ _ con fields raw (more_constructors {cons = cons} {cs = cs} first first_is others) are is = more_constructors first first_is (constructors_push G T cons cs con fields raw others are is)
 
-module _ (text : List Item) (datatype : ℕ) (G : Globals) (T : TypeLocals) (cons : List SCon) (i : ℕ) (now : Globals) (raws : List RawCon) (con : SCon) (name : List ℕ) (within : i < length cons) (at : con ≡ get_or cons i con) (so_far : AreSoFar text datatype G T cons i now raws) (same : name ≡ con.name.text) (is_new : Bool) (known : is_name now.cons name ≡ not is_new) where
+module _ (text : List Item) (datatype : ℕ) (G : Globals) (T : TypeLocals) (cons : List SCon) (i : ℕ) (now : Globals) (raws : List RawCon) (con : SCon) (name : List ℕ) (within : i < length cons) (at : con ≡ get_or cons i con) (so_far : AreConstructorsSoFar text datatype G T cons i now raws) (same : name ≡ con.name.text) (is_new : Bool) (known : is_name now.cons name ≡ not is_new) where
   one_more : take (i + 1) cons ≡ take i cons ++ con ∷ []
   one_more = take_more cons i con within ∙ ap (λ other. take i cons ++ other ∷ []) (sym at)
 
@@ -115,7 +115,7 @@ module _ (text : List Item) (datatype : ℕ) (G : Globals) (T : TypeLocals) (con
           subst (λ us. Resolves us Is r) (counted_along text datatype 0 G T cons) (reached_fails (counted_next datatype) (counted_uses text T) (record { number = 0; globals = G }) cons i (record { number = i; globals = now }) Is con r end within at so_far.reached is (fails_later con.name.at (new_constructor_fault now con.name.text) (types_uses text now T con.fields) end no_fault here))
 
       -- one constructor more
-      pub constructor_next : (fields : List RawTy) (raw : RawCon) (out : List RawCon) → Fine (types_uses text later T ss) (AreTypes later T ss) fields → raw ≡ record { at = con.name.at; fields = fields } → out ≡ raws ++ raw ∷ [] → later ≡ with_constructor datatype i now con → AreSoFar text datatype G T cons (i + 1) later out
+      pub constructor_next : (fields : List RawTy) (raw : RawCon) (out : List RawCon) → Fine (types_uses text later T ss) (AreTypes later T ss) fields → raw ≡ record { at = con.name.at; fields = fields } → out ≡ raws ++ raw ∷ [] → later ≡ with_constructor datatype i now con → AreConstructorsSoFar text datatype G T cons (i + 1) later out
       constructor_next fields raw out (fine, are) is pushed is_later =
           let fields_fine : first_broken (types_uses text now T con.fields) ≡ None = subst (λ us. first_broken us ≡ None) (types_uses_kept now later T kept text con.fields) (subst (λ fs. first_broken (types_uses text later T fs) ≡ None) fields_are fine) in
           let fields_are_types : AreTypes G T con.fields fields = types_kept G later T (kept ∙ so_far.same_datatypes) con.fields fields (subst (λ fs. AreTypes later T fs fields) fields_are are) in
@@ -126,7 +126,7 @@ module _ (text : List Item) (datatype : ℕ) (G : Globals) (T : TypeLocals) (con
           }
 
 -- no constructors
-pub no_constructors_yet : (text : List Item) (datatype : ℕ) (G : Globals) (T : TypeLocals) (cons : List SCon) (raws : List RawCon) → raws ≡ [] → AreSoFar text datatype G T cons 0 G raws
+pub no_constructors_yet : (text : List Item) (datatype : ℕ) (G : Globals) (T : TypeLocals) (cons : List SCon) (raws : List RawCon) → raws ≡ [] → AreConstructorsSoFar text datatype G T cons 0 G raws
 no_constructors_yet text datatype G T cons raws empty = record {
   reached = record { fine = refl; is = refl };
   are = rw empty no_constructors;
@@ -134,25 +134,25 @@ no_constructors_yet text datatype G T cons raws empty = record {
 }
 
 -- all constructors were seen
-pub constructors_all : (text : List Item) (datatype : ℕ) (G : Globals) (T : TypeLocals) (cons : List SCon) (i : ℕ) (now : Globals) (raws : List RawCon) → length cons ≤ i → AreSoFar text datatype G T cons i now raws → Fine (constructors_uses text datatype 0 G T cons) (λ (rs : List RawCon). AreConstructors G T cons rs × (now ≡ with_constructors datatype 0 G cons)) raws
+pub constructors_all : (text : List Item) (datatype : ℕ) (G : Globals) (T : TypeLocals) (cons : List SCon) (i : ℕ) (now : Globals) (raws : List RawCon) → length cons ≤ i → AreConstructorsSoFar text datatype G T cons i now raws → Fine (constructors_uses text datatype 0 G T cons) (λ (rs : List RawCon). AreConstructors G T cons rs × (now ≡ with_constructors datatype 0 G cons)) raws
 constructors_all text datatype G T cons i now raws ends so_far =
     let all : Reached (counted_next datatype) (counted_uses text T) (record { number = 0; globals = G }) cons (record { number = i; globals = now }) = reached_all (counted_next datatype) (counted_uses text T) (record { number = 0; globals = G }) cons i (record { number = i; globals = now }) ends so_far.reached in
     (ap first_broken (sym (counted_along text datatype 0 G T cons)) ∙ all.fine, (subst (λ cs. AreConstructors G T cs raws) (take_all i cons ends) so_far.are, ap (λ (C : Counted). C.globals) all.is ∙ counted_fold datatype 0 G cons))
 
-one_fails : (a b : Bool) → (a || b) ≡ false → b ≡ false
-one_fails true b e = cc
-one_fails false b e = e
+other_false : (a b : Bool) → (a || b) ≡ false → b ≡ false
+other_false true b e = cc
+other_false false b e = e
 
-is_so : (b : Bool) → not b ≡ false → b ≡ true
-is_so true e = refl
-is_so false e = cc
+not_false : (b : Bool) → not b ≡ false → b ≡ true
+not_false true e = refl
+not_false false e = cc
 
 -- what is declared with one datatype more, which has a new name
 pub datatype_added : (G : Globals) (name : Name) (first second : List ℕ) (known is_new : Bool) (added : List (List ℕ)) → first ≡ name.text → second ≡ name.text → known ≡ is_type_name G first → known ≡ false → is_name G.datatypes second ≡ not is_new → added ≡ (if is_new then G.datatypes ++ second ∷ [] else G.datatypes) → record G { datatypes = added } ≡ with_datatype G name
 datatype_added G name first second known is_new added one two is no_type is_old add =
     let untyped : is_type_name G name.text ≡ false = ap (is_type_name G) (sym one) ∙ sym is ∙ no_type in
-    let unnamed : is_name G.datatypes name.text ≡ false = one_fails _ _ untyped in
-    let new : is_new ≡ true = is_so is_new (sym is_old ∙ ap (is_name G.datatypes) two ∙ unnamed) in
+    let unnamed : is_name G.datatypes name.text ≡ false = other_false _ _ untyped in
+    let new : is_new ≡ true = not_false is_new (sym is_old ∙ ap (is_name G.datatypes) two ∙ unnamed) in
     let here : added ≡ G.datatypes ++ name.text ∷ [] = rw (add, new, two) refl in
     ap (λ (ds : List (List ℕ)). record G { datatypes = ds }) here
 
@@ -187,9 +187,14 @@ module _ (text : List Item) (G : Globals) (d : SData) (first : List ℕ) (known 
 
       -- a datatype, where its parts are known
       pub data_fine : (raws : List RawCon) (later : Globals) (count : ℕ) (raw : RawData) → first_broken (constructors_uses text number 0 H (record V { own = Some number }) cons) ≡ None → AreConstructors H (record V { own = Some number }) cons raws → later ≡ with_constructors number 0 H cons → count ≡ length d.tparams → raw ≡ record { at = d.name.at; tparams = count; cons = raws } → Fine (data_uses text G d) (λ (result : RawData). IsData G d result × (later ≡ after G (items.Datatype d))) raw
-      data_fine raws later count raw cons_fine are is_later counted raw_is =
-          (fine_first d.name.at (new_type_fault G d.name.text) (type_parameters_uses (with_datatype G d.name) no_parameters d.tparams ++ constructors_uses text (length G.datatypes) 0 (with_datatype G d.name) (data_locals (length G.datatypes) d.tparams) d.cons) new_type (fine_both (type_parameters_uses (with_datatype G d.name) no_parameters d.tparams) (constructors_uses text (length G.datatypes) 0 (with_datatype G d.name) (data_locals (length G.datatypes) d.tparams) d.cons) (ap first_broken (sym params_uses) ∙ params_fine) (ap first_broken (sym cons_uses) ∙ cons_fine)), (record {
+      data_fine raws later count raw cons_fine are is_later counted raw_is = (
+        fine_first d.name.at (new_type_fault G d.name.text) (type_parameters_uses (with_datatype G d.name) no_parameters d.tparams ++ constructors_uses text (length G.datatypes) 0 (with_datatype G d.name) (data_locals (length G.datatypes) d.tparams) d.cons) new_type (fine_both (type_parameters_uses (with_datatype G d.name) no_parameters d.tparams) (constructors_uses text (length G.datatypes) 0 (with_datatype G d.name) (data_locals (length G.datatypes) d.tparams) d.cons) (ap first_broken (sym params_uses) ∙ params_fine) (ap first_broken (sym cons_uses) ∙ cons_fine)),
+        (
+          record {
             cons = raws;
             are_constructors = subst (λ cs. AreConstructors (with_datatype G d.name) (data_locals (length G.datatypes) d.tparams) cs raws) cons_are (subst (λ K. AreConstructors K (data_locals (length G.datatypes) d.tparams) cons raws) H_is (subst (λ W. AreConstructors H W cons raws) locals_are are));
             is = raw_is ∙ ap (λ (n : ℕ). record { at = d.name.at; tparams = n; cons = raws }) counted;
-          }, is_later ∙ (rw (number_is, H_is, cons_are) refl)))
+          },
+          is_later ∙ (rw (number_is, H_is, cons_are) refl),
+        ),
+      )

@@ -1,5 +1,5 @@
 -- Type parameters and parameters, one after the other.
-use Rattle.std.proofs.Common.{◌≡◌, ℕ, ◌+◌, ◌<◌, ◌≤◌, Bool, true, false, not, ◌||◌, List, [], ◌∷◌, ◌++◌, length, take, get_or, None, Result, refl, sym, ap, ◌∙◌, subst, append_assoc, arith}
+use Rattle.std.proofs.Common.{◌≡◌, ℕ, ◌+◌, ◌<◌, ◌≤◌, Bool, true, false, not, List, [], ◌∷◌, ◌++◌, length, take, get_or, None, Result, refl, sym, ap, ◌∙◌, subst, append_assoc, arith}
 use Rattle.std.specs.Prelude.{if◌then◌else◌}
 use Rattle.std.specs.List.{fold}
 use Rattle.std.specs.Result.{IsErrAnd}
@@ -85,21 +85,23 @@ module _ (text : List Item) (G : Globals) (T : TypeLocals) (f : SFnType) where
   pub fn_type_fine : (ss : List SType) (ts : List RawTy) (t : RawTy) (claimed : List Prop) (props copied copy : List RawProp) → ss ≡ f.params → Fine (types_uses text G T ss) (AreTypes G T ss) ts → Fine (type_uses text G T f.result) (IsType G T f.result) t → claimed ≡ [] → props ≡ f.props → first_broken (properties_uses claimed props) ≡ None → copied ≡ f.props → copy ≡ copied → Fine (fn_type_uses text G T f) (IsFnType G T f) (record { params = ts; result = t; props = copy })
   fn_type_fine ss ts t claimed props copied copy same (fine, are) (result_fine, is) empty all props_fine from copies =
       let props_are_fine : first_broken (properties_uses [] f.props) ≡ None = subst (λ ps. first_broken (properties_uses [] ps) ≡ None) all (subst (λ cs. first_broken (properties_uses cs props) ≡ None) empty props_fine) in
-      let params_are_fine : first_broken (types_uses text G T f.params) ≡ None = subst (λ xs. first_broken (types_uses text G T xs) ≡ None) same fine in
-      (fine_both (types_uses text G T f.params) (type_uses text G T f.result ++ properties_uses [] f.props) params_are_fine (fine_both (type_uses text G T f.result) (properties_uses [] f.props) result_fine props_are_fine), record {
-        params = ts;
-        type = t;
-        are_params = subst (λ xs. AreTypes G T xs ts) same are;
-        is_result = is;
-        is = ap (λ (ps : List RawProp). record { params = ts; result = t; props = ps }) (copies ∙ from);
-      })
+      let params_are_fine : first_broken (types_uses text G T f.params) ≡ None = subst (λ xs. first_broken (types_uses text G T xs) ≡ None) same fine in (
+        fine_both (types_uses text G T f.params) (type_uses text G T f.result ++ properties_uses [] f.props) params_are_fine (fine_both (type_uses text G T f.result) (properties_uses [] f.props) result_fine props_are_fine),
+        record {
+          params = ts;
+          type = t;
+          are_params = subst (λ xs. AreTypes G T xs ts) same are;
+          is_result = is;
+          is = ap (λ (ps : List RawProp). record { params = ts; result = t; props = ps }) (copies ∙ from);
+        },
+      )
 
 -- the names in one parameter more
 abbrev pub parameter_use : List Item → Globals → Locals → SParam → List Use
 parameter_use text G L p = parameter_uses_of text G L p.name p.kind
 
 -- The first parameters, so many, break no rule, and are these functions and these values.
-pub record AreSoFar (text : List Item) (G : Globals) (L : Locals) (params : List SParam) (i : ℕ) (now : Locals) (funs : List RawFnType) (values : List RawTy) : Type 0 where
+pub record AreParametersSoFar (text : List Item) (G : Globals) (L : Locals) (params : List SParam) (i : ℕ) (now : Locals) (funs : List RawFnType) (values : List RawTy) : Type 0 where
   pub reached : Reached with_parameter (parameter_use text G) L (take i params) now
   pub are : AreParameters G L.types (take i params) funs values
   pub same_types : now.types ≡ L.types
@@ -118,7 +120,7 @@ parameters_push_value G T _ _ _ p s t none kind is = value kind is none
 parameters_push_value G T _ _ _ p s t (value {ps = ps} {fs = fs} {ts = ts} first type others) kind is = value first type (parameters_push_value G T ps fs ts p s t others kind is)
 parameters_push_value G T _ _ _ p s t (function {ps = ps} {fs = fs} {ts = ts} first type others) kind is = function first type (parameters_push_value G T ps fs ts p s t others kind is)
 
-module _ (text : List Item) (G : Globals) (L : Locals) (params : List SParam) (i : ℕ) (now : Locals) (funs : List RawFnType) (values : List RawTy) (p : SParam) (within : i < length params) (at : p ≡ get_or params i p) (so_far : AreSoFar text G L params i now funs values) where
+module _ (text : List Item) (G : Globals) (L : Locals) (params : List SParam) (i : ℕ) (now : Locals) (funs : List RawFnType) (values : List RawTy) (p : SParam) (within : i < length params) (at : p ≡ get_or params i p) (so_far : AreParametersSoFar text G L params i now funs values) where
   one_more : take (i + 1) params ≡ take i params ++ p ∷ []
   one_more = take_more params i p within ∙ ap (λ q. take i params ++ q ∷ []) (sym at)
 
@@ -142,7 +144,7 @@ module _ (text : List Item) (G : Globals) (L : Locals) (params : List SParam) (i
           reached_fails with_parameter (parameter_use text G) L params i now Is p r end within at so_far.reached is (subst (λ us. Fails (first_broken us) end) (sym function_uses) (fails_later p.name.at (new_function_fault now p.name.text) (fn_type_uses text G now.types f) end fault here))
 
       -- one function more
-      pub function_next : (g : RawFnType) (out : List RawFnType) → Fine (fn_type_uses text G later.types f) (IsFnType G later.types f) g → out ≡ funs ++ g ∷ [] → AreSoFar text G L params (i + 1) later out values
+      pub function_next : (g : RawFnType) (out : List RawFnType) → Fine (fn_type_uses text G later.types f) (IsFnType G later.types f) g → out ≡ funs ++ g ∷ [] → AreParametersSoFar text G L params (i + 1) later out values
       function_next g out (fine, is) pushed = record {
         reached = reached_next with_parameter (parameter_use text G) L params i now p later within at so_far.reached (subst (λ us. first_broken us ≡ None) (sym function_uses) (fine_first p.name.at (new_function_fault now p.name.text) (fn_type_uses text G now.types f) fault (subst (λ T. first_broken (fn_type_uses text G T f) ≡ None) function_types fine))) (is_later ∙ ap (with_parameter_of now p.name) (sym kind));
         are = rw (one_more, pushed) (parameters_push_function G L.types (take i params) funs values p f g so_far.are kind (subst (λ T. IsFnType G T f g) (function_types ∙ so_far.same_types) is));
@@ -171,7 +173,7 @@ module _ (text : List Item) (G : Globals) (L : Locals) (params : List SParam) (i
           reached_fails with_parameter (parameter_use text G) L params i now Is p r end within at so_far.reached is (subst (λ us. Fails (first_broken us) end) (sym value_uses) (fails_later p.name.at (new_value_fault now p.name.text) (type_uses text G now.types s) end fault here))
 
       -- one value more
-      pub value_next : (t : RawTy) (out : List RawTy) → Fine (type_uses text G later.types s) (IsType G later.types s) t → out ≡ values ++ t ∷ [] → AreSoFar text G L params (i + 1) later funs out
+      pub value_next : (t : RawTy) (out : List RawTy) → Fine (type_uses text G later.types s) (IsType G later.types s) t → out ≡ values ++ t ∷ [] → AreParametersSoFar text G L params (i + 1) later funs out
       value_next t out (fine, is) pushed = record {
         reached = reached_next with_parameter (parameter_use text G) L params i now p later within at so_far.reached (subst (λ us. first_broken us ≡ None) (sym value_uses) (fine_first p.name.at (new_value_fault now p.name.text) (type_uses text G now.types s) fault (subst (λ T. first_broken (type_uses text G T s) ≡ None) value_types fine))) (is_later ∙ ap (with_parameter_of now p.name) (sym kind));
         are = rw (one_more, pushed) (parameters_push_value G L.types (take i params) funs values p s t so_far.are kind (subst (λ T. IsType G T s t) (value_types ∙ so_far.same_types) is));
@@ -181,7 +183,7 @@ module _ (text : List Item) (G : Globals) (L : Locals) (params : List SParam) (i
       }
 
 -- no parameters
-pub no_parameters_yet : (text : List Item) (G : Globals) (L : Locals) (params : List SParam) (funs : List RawFnType) (values : List RawTy) → L.functions ≡ 0 → L.values ≡ 0 → funs ≡ [] → values ≡ [] → AreSoFar text G L params 0 L funs values
+pub no_parameters_yet : (text : List Item) (G : Globals) (L : Locals) (params : List SParam) (funs : List RawFnType) (values : List RawTy) → L.functions ≡ 0 → L.values ≡ 0 → funs ≡ [] → values ≡ [] → AreParametersSoFar text G L params 0 L funs values
 no_parameters_yet text G L params funs values no_functions no_values no_funs no_types = record {
   reached = record { fine = refl; is = refl };
   are = rw (no_funs, no_types) none;

@@ -13,7 +13,7 @@ loop-name-preserved c =
 pub returns-then-has_type : goal.returns-then-has_type
 returns-then-has_type c =
     elim c.then-has_type.branch [
-      then-has_type-via-then-has_type w ↦ type_parameter_is_type c.args.globals.now c.args.types.now c.args.names.now c.loop-name.name-index c.loop-name.types c.name-item.result c.as_str-text.result.now c.loop-name-test.true c.name-item.is c.loop-name.invariant c.as_str-text.ensures c.has_type.result c.fault.result c.has_type.ensures w.if-has_type.true c.fault.ensures
+      | then-has_type-via-then-has_type w ↦ type_parameter_is_type c.args.globals.now c.args.types.now c.args.names.now c.loop-name.name-index c.loop-name.types c.name-item.result c.as_str-text.result.now c.loop-name-test.true c.name-item.is c.loop-name.invariant c.as_str-text.ensures c.has_type.result c.fault.result c.has_type.ensures w.if-has_type.true c.fault.ensures
       | then-has_type-via-else-has_type+in_ok-add+then-not-branch w ↦ type_parameter_repeats c.args.globals.now c.args.types.now c.args.names.now c.loop-name.name-index c.loop-name.types c.name-item.result c.as_str-text.result.now c.loop-name-test.true c.name-item.is c.loop-name.invariant c.as_str-text.ensures c.has_type.result w.in_ok-add.field-0 c.fault.result c.has_type.ensures w.if-has_type.false w.in_ok-add.ensures.known w.if-not-branch.true c.fault.ensures
     ]
 
