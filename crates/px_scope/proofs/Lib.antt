@@ -1,8 +1,12 @@
+mod DataSteps
 mod Firsts
 mod LookupSteps
 mod NameFacts
 mod OneProgram
 mod OneTerm
 mod OneType
+mod ParameterSteps
+mod PropertySteps
+mod StateSteps
 mod TypeNames
 mod TypeSteps

@@ -1,5 +1,5 @@
 //! Type parameters and parameters.
-ghost use Rattle.std.specs.Prelude.{◌≡◌, ◌<◌, ◌+◌, ◌^◌, [], ◌∷◌, ◌++◌, OnOk};
+ghost use Rattle.std.specs.Prelude.{◌≡◌, ◌<◌, ◌+◌, [], ◌∷◌, ◌++◌, OnOk};
 ghost use Rattle.std.specs.List.{fold};
 ghost use Rattle.px_scope.specs.Rules.{new_value_fault, new_function_fault};
 ghost use Rattle.px_scope.specs.Declaring.{with_type_parameter, with_parameter};
@@ -76,7 +76,7 @@ pub(crate) fn resolve_parameters(
 
 /// Makes a function parameter local. It takes memory.
 fn add_function(alloc: Global, locals: &mut Locals, name: &Name) -> Result<(), ScopeEnd>
-    requires { locals.old.functions < 2 ^ 32 }
+    requires { locals.old.functions < usize.MAX }
     ensures { Finds name.now.at (new_function_fault locals.old name.now.text) (λ _. locals.new ≡ record locals.old { names = locals.old.names ++ name.now.text ∷ []; functions = locals.old.functions + 1 }) result }
 {
     if locals.names.has(name.text.as_str()) {
@@ -92,7 +92,7 @@ fn add_function(alloc: Global, locals: &mut Locals, name: &Name) -> Result<(), S
 
 /// Makes a data parameter local. It takes memory.
 fn add_value(alloc: Global, locals: &mut Locals, name: &Name) -> Result<(), ScopeEnd>
-    requires { locals.old.values < 2 ^ 32 }
+    requires { locals.old.values < usize.MAX }
     ensures { Finds name.now.at (new_value_fault locals.old name.now.text) (λ _. locals.new ≡ record locals.old { names = locals.old.names ++ name.now.text ∷ []; values = locals.old.values + 1 }) result }
 {
     if !locals.names.add(alloc, name.text.as_str())? {
