@@ -1,3 +1,4 @@
 mod Firsts
 mod NameFacts
+mod TermSteps
 mod TypeSteps

@@ -1,0 +1,154 @@
+-- The names in functions, expressions and arms, and what their parts are.
+use Rattle.std.proofs.Common.{◌≡◌, ℕ, ◌+◌, ◌<◌, ◌≤◌, Bool, true, false, List, [], ◌∷◌, ◌++◌, map, length, take, drop, Option, Some, None, Result, refl, sym, ap, ◌∙◌, subst}
+use Rattle.std.specs.Result.{IsErrAnd}
+use Rattle.std.specs.List.{flat_map, fold}
+use Rattle.std.specs.Option.{is_some}
+use Rattle.px_parser.specs.declared.surface.Name.{Name}
+use Rattle.px_parser.specs.declared.surface.SType.{SType}
+use Rattle.px_parser.specs.declared.surface.SExpr.{SExpr}
+use Rattle.px_parser.specs.declared.surface.SExprKind.{SExprKind, out-SExprKind}
+use Rattle.px_parser.specs.declared.surface.SExprKind.TheVariants.{Number, Upper, Lower, Match, outs-Number, outs-Upper, outs-Lower, outs-Match}
+use Rattle.px_parser.specs.declared.surface.SExprKind.TheOpen.{SExprKind-F}
+use Rattle.px_parser.specs.declared.surface.SExprKind.TheFolds.{map-SExprKind, fold-SExprKind, fold_out-SExprKind, fold_out-SArm, fold_out-SExpr}
+use Rattle.px_parser.specs.declared.surface.SArm.{SArm}
+use Rattle.px_parser.specs.declared.surface.SFun.{SFun}
+use Rattle.px_parser.specs.declared.surface.Item.{Item}
+use Rattle.px_terms.specs.declared.types.Head.{Head}
+use Rattle.px_terms.specs.declared.raw.RawTy.{RawTy}
+use Rattle.px_terms.specs.declared.raw.RawFun.{RawFun}
+use Rattle.px_terms.specs.declared.raw.RawKind.TheVariants as kinds
+use Rattle.px_terms.specs.declared.raw.RawTerm.{RawTerm}
+use Rattle.px_terms.specs.declared.raw.RawArm.{RawArm}
+use Rattle.px_scope.specs.declared.ends.ScopeKind.{ScopeKind}
+use Rattle.px_scope.specs.declared.ends.ScopeKind.TheVariants.{WrongPlace}
+use Rattle.px_scope.specs.declared.ends.ScopeEnd.{ScopeEnd}
+use Rattle.px_scope.specs.declared.ends.ScopeEnd.TheVariants.{Fault}
+use Rattle.px_scope.specs.declared.globals.Constructor.{Constructor}
+use Rattle.px_scope.specs.declared.globals.Meaning.{Meaning}
+use Rattle.px_scope.specs.declared.globals.Meaning.TheVariants as meaning
+use Rattle.px_scope.specs.declared.globals.Globals.{Globals}
+use Rattle.px_scope.specs.declared.locals.Local.{Local}
+use Rattle.px_scope.specs.declared.locals.Local.TheVariants as local
+use Rattle.px_scope.specs.declared.locals.TypeLocals.{TypeLocals}
+use Rattle.px_scope.specs.declared.locals.Locals.{Locals}
+use Rattle.px_scope.specs.Later.{declares_lower}
+use Rattle.px_scope.specs.Standing.{constructor_of, meaning_of, local_of, head_of, function_places}
+use Rattle.px_scope.specs.Rules.{function_fault, function_fault_at, constructor_fault, constructor_argument_fault, value_fault, from_fault}
+use Rattle.px_scope.specs.Uses.{Use, use_of, first_broken, broken_or, types_uses, Role, Data, Function, From, Seen, bind, bind_one, variables_uses, misplaced_use, literal_uses, construction_uses, arguments_uses, lower_uses, match_uses, kind_uses_step, arm_uses_step, expr_uses_step, expr_uses, arm_uses, function_uses}
+use Rattle.px_scope.specs.Numbers.{AreTypes, none, more, raw_fun, IsArgument, named, AreArguments, IsFunction, AreFunctions, raw_term, raw_arm, IsTermLayer, literal, construction, value, pattern, call, choice, AreTerms, no_terms, more_terms, AreArms, no_arms, more_arms, IsTerm, IsArm}
+use Rattle.px_scope.specs.Answers.{Fails, Fine, Resolves}
+use Rattle.px_scope.proofs.Firsts.{fine_first, fine_both, fails_first, fails_later, fails_front, fails_back, passed_on}
+
+-- one function more
+pub functions_push : (G : Globals) (L : Locals) (fs : List SFun) (gs : List RawFun) (f : SFun) (g : RawFun) → AreFunctions G L fs gs → IsFunction G L f g → AreFunctions G L (fs ++ f ∷ []) (gs ++ g ∷ [])
+functions_push G L _ _ f g none is = more is none
+functions_push G L _ _ f g (more {fs = fs} {gs = gs} first others) is = more first (functions_push G L fs gs f g others is)
+
+-- one function argument more
+pub arguments_push : (G : Globals) (L : Locals) (es : List SExpr) (fs : List RawFun) (e : SExpr) (f : RawFun) → AreArguments G L es fs → IsArgument G L (out-SExprKind e.kind) f → AreArguments G L (es ++ e ∷ []) (fs ++ f ∷ [])
+arguments_push G L _ _ e f none is = more is none
+arguments_push G L _ _ e f (more {es = es} {fs = fs} first others) is = more first (arguments_push G L es fs e f others is)
+
+-- one term more
+pub terms_push : (G : Globals) (L : Locals) (es : List SExpr) (ts : List RawTerm) (e : SExpr) (t : RawTerm) → AreTerms G L es ts → IsTerm G L e t → AreTerms G L (es ++ e ∷ []) (ts ++ t ∷ [])
+terms_push G L _ _ e t no_terms is = more_terms is no_terms
+terms_push G L _ _ e t (more_terms {es = es} {ts = ts} first others) is = more_terms first (terms_push G L es ts e t others is)
+
+-- one arm more
+pub arms_push : (G : Globals) (L : Locals) (arms : List SArm) (cases : List RawArm) (arm : SArm) (a : RawArm) → AreArms G L arms cases → IsArm G L arm a → AreArms G L (arms ++ arm ∷ []) (cases ++ a ∷ [])
+arms_push G L _ _ arm a no_arms is = more_arms is.stands is.is_body is.is no_arms
+arms_push G L _ _ arm a (more_arms {arms = arms} {cases = cases} stands body e others) is = more_arms stands body e (arms_push G L arms cases arm a others is)
+
+-- the names of folded parts are those of the parts
+parts_are : {X : Type 0} (f : X → Seen) (role : Role) (L : Locals) (xs : List X) → flat_map (λ (s : Seen). s role L) (map f xs) ≡ flat_map (λ (x : X). f x role L) xs
+parts_are f role L [] = refl
+parts_are f role L (x ∷ xs) = ap (λ us. f x role L ++ us) (parts_are f role L xs)
+
+arms_are : {X : Type 0} (f : X → Locals → List Use) (L : Locals) (xs : List X) → flat_map (λ (s : Locals → List Use). s L) (map f xs) ≡ flat_map (λ (x : X). f x L) xs
+arms_are f L [] = refl
+arms_are f L (x ∷ xs) = ap (λ us. f x L ++ us) (arms_are f L xs)
+
+module _ (text : List Item) (G : Globals) where
+  -- what is seen of a kind whose parts are not folded
+  abbrev layer_uses : SExprKind-F SExprKind SArm SExpr → ℕ → Seen
+  layer_uses (SExprKind-F.Number w) at role L = literal_uses at role
+  layer_uses (SExprKind-F.Upper name types fields) at role L = construction_uses text G name types (map (expr_uses text G) fields) role L
+  layer_uses (SExprKind-F.Lower name types None) at role L = lower_uses text G name types None role L
+  layer_uses (SExprKind-F.Lower name types (Some args)) at role L = lower_uses text G name types (Some (map (expr_uses text G) args)) role L
+  layer_uses (SExprKind-F.Match on arms) at role L = match_uses at (expr_uses text G on) (map (arm_uses text G) arms) role L
+
+  abbrev kind_seen : SExprKind → ℕ → Seen
+  kind_seen kind = fold-SExprKind (ℕ → Seen) (Locals → List Use) Seen (kind_uses_step text G) (arm_uses_step text G) expr_uses_step kind
+
+  layer_is : (y : SExprKind-F SExprKind SArm SExpr) (at : ℕ) (role : Role) (L : Locals) → kind_uses_step text G (map-SExprKind SExprKind SArm SExpr (ℕ → Seen) (Locals → List Use) Seen kind_seen (arm_uses text G) (expr_uses text G) y) at role L ≡ layer_uses y at role L
+  layer_is (SExprKind-F.Number w) at role L = refl
+  layer_is (SExprKind-F.Upper name types fields) at role L = refl
+  layer_is (SExprKind-F.Lower name types None) at role L = refl
+  layer_is (SExprKind-F.Lower name types (Some args)) at role L = refl
+  layer_is (SExprKind-F.Match on arms) at role L = refl
+
+  expr_uses_is : (e : SExpr) (role : Role) (L : Locals) → expr_uses text G e role L ≡ layer_uses (out-SExprKind e.kind) e.at role L
+  unfolding expr_uses arm_uses
+  expr_uses_is e role L =
+      ap (λ (s : Seen). s role L) (fold_out-SExpr (ℕ → Seen) (Locals → List Use) Seen (kind_uses_step text G) (arm_uses_step text G) expr_uses_step e)
+      ∙ ap (λ (s : ℕ → Seen). s e.at role L) (fold_out-SExprKind (ℕ → Seen) (Locals → List Use) Seen (kind_uses_step text G) (arm_uses_step text G) expr_uses_step e.kind)
+      ∙ layer_is (out-SExprKind e.kind) e.at role L
+
+  -- an arm: its constructor, the pattern's variables, and the body
+  pub arm_uses_is : (arm : SArm) (L : Locals) → arm_uses text G arm L ≡ use_of arm.name (constructor_fault text G arm.name.text) ∷ (variables_uses L arm.vars ++ expr_uses text G arm.body Data (bind L arm.vars))
+  unfolding expr_uses arm_uses
+  arm_uses_is arm L = ap (λ (s : Locals → List Use). s L) (fold_out-SArm (ℕ → Seen) (Locals → List Use) Seen (kind_uses_step text G) (arm_uses_step text G) expr_uses_step arm)
+
+  module _ (e : SExpr) (y : SExprKind-F SExprKind SArm SExpr) (layer : out-SExprKind e.kind ≡ y) (role : Role) (L : Locals) where
+    uses_of_layer : expr_uses text G e role L ≡ layer_uses y e.at role L
+    uses_of_layer = expr_uses_is e role L ∙ ap (λ (k : SExprKind-F SExprKind SArm SExpr). layer_uses k e.at role L) layer
+
+  -- a name that is called stands for no function argument
+  no_call : (declared : Bool) (L : Locals) (here : Option Local) (top : Option Meaning) → function_fault_at declared L here top true ≡ None → ⊥
+  no_call declared L (Some (local.Function n)) top e = cc
+  no_call declared L (Some (local.Value n)) top e = cc
+  no_call declared L (Some (local.Pattern n)) top e = cc
+  no_call declared L None None e = cc
+  no_call declared L None (Some meaning.Wle) e = cc
+  no_call declared L None (Some meaning.Weq) e = cc
+  no_call declared L None (Some (meaning.Definition n functions)) e = cc
+  no_call declared L None (Some meaning.Lemma) e = cc
+  no_call declared L None (Some meaning.Replica) e = cc
+
+  -- A name with a small letter in a function argument's place.
+  module _ (L : Locals) (e : SExpr) (name : Name) (types : List SType) where
+    lower_function : (at : ℕ) (args : Option (List SExpr)) → layer_uses (SExprKind-F.Lower name types args) at Function L ≡ use_of name (function_fault text G L name.text (is_some args)) ∷ types_uses text G L.types types
+    lower_function at None = refl
+    lower_function at (Some args) = refl
+
+    argument_uses_is : (args : Option (List SExpr)) → e.kind ≡ Lower name types args → expr_uses text G e Function L ≡ use_of name (function_fault text G L name.text (is_some args)) ∷ types_uses text G L.types types
+    argument_uses_is args is = uses_of_layer e (SExprKind-F.Lower name types args) (ap out-SExprKind is ∙ outs-Lower name types args) Function L ∙ lower_function e.at args
+
+    -- a function argument, where what its name stands for is known, and its types
+    pub argument_fine : (args : Option (List SExpr)) (head : Head) (ts : List RawTy) → e.kind ≡ Lower name types args → function_fault text G L name.text (is_some args) ≡ None → head_of G L name.text ≡ Some head → Fine (types_uses text G L.types types) (AreTypes G L.types types) ts → Fine (expr_uses text G e Function L) (IsArgument G L (out-SExprKind e.kind)) (raw_fun name head ts)
+    argument_fine (Some args) head ts is fault stands (fine, are) = absurd (no_call (declares_lower text name.text) L (local_of L name.text) (meaning_of G name.text) fault)
+    argument_fine None head ts is fault stands (fine, are) =
+        (ap first_broken (argument_uses_is None is) ∙ fine_first name.at (function_fault text G L name.text false) (types_uses text G L.types types) fault fine,
+         subst (λ (y : SExprKind-F SExprKind SArm SExpr). IsArgument G L y (raw_fun name head ts)) (sym (ap out-SExprKind is ∙ outs-Lower name types None)) (named stands are refl))
+
+    module _ {Z : Type 0} (Is : Z → Type 0) (args : Option (List SExpr)) (is : e.kind ≡ Lower name types args) (r : Result Z ScopeEnd) (end : ScopeEnd) (same : IsErrAnd r (λ x. x ≡ end)) where
+      -- a function argument whose name fails
+      pub argument_name_fails : Fails (broken_or name.at (function_fault text G L name.text (is_some args)) None) end → Resolves (expr_uses text G e Function L) Is r
+      argument_name_fails fails = passed_on Is (expr_uses text G e Function L) r end same (rw (argument_uses_is args is) (fails_first name.at (function_fault text G L name.text (is_some args)) (types_uses text G L.types types) end fails))
+
+      -- a function argument whose types fail
+      pub argument_types_fail : function_fault text G L name.text (is_some args) ≡ None → Fails (first_broken (types_uses text G L.types types)) end → Resolves (expr_uses text G e Function L) Is r
+      argument_types_fail fault fails = passed_on Is (expr_uses text G e Function L) r end same (rw (argument_uses_is args is) (fails_later name.at (function_fault text G L name.text (is_some args)) (types_uses text G L.types types) end fault fails))
+
+  module _ (L : Locals) (e : SExpr) where
+    -- a constructor in a function argument's place
+    pub argument_upper : (name : Name) (types : List SType) (fields : List SExpr) (end : ScopeEnd) → e.kind ≡ Upper name types fields → Fails (broken_or name.at (constructor_argument_fault text G name.text) None) end → Fails (first_broken (expr_uses text G e Function L)) end
+    argument_upper name types fields end is fails = rw (uses_of_layer e (SExprKind-F.Upper name types fields) (ap out-SExprKind is ∙ outs-Upper name types fields) Function L) fails
+
+    -- a literal in a function argument's place
+    pub argument_number : (w : ℕ) (end : ScopeEnd) → e.kind ≡ Number w → end ≡ Fault WrongPlace e.at → Fails (first_broken (expr_uses text G e Function L)) end
+    argument_number w end is fault = rw (uses_of_layer e (SExprKind-F.Number w) (ap out-SExprKind is ∙ outs-Number w) Function L, fault) refl
+
+    -- a match in a function argument's place
+    pub argument_match : (on : SExpr) (arms : List SArm) (end : ScopeEnd) → e.kind ≡ Match on arms → end ≡ Fault WrongPlace e.at → Fails (first_broken (expr_uses text G e Function L)) end
+    argument_match on arms end is fault = rw (uses_of_layer e (SExprKind-F.Match on arms) (ap out-SExprKind is ∙ outs-Match on arms) Function L, fault) refl
