@@ -152,3 +152,81 @@ module _ (text : List Item) (G : Globals) where
     -- a match in a function argument's place
     pub argument_match : (on : SExpr) (arms : List SArm) (end : ScopeEnd) → e.kind ≡ Match on arms → end ≡ Fault WrongPlace e.at → Fails (first_broken (expr_uses text G e Function L)) end
     argument_match on arms end is fault = rw (uses_of_layer e (SExprKind-F.Match on arms) (ap out-SExprKind is ∙ outs-Match on arms) Function L, fault) refl
+
+-- A name, and two groups of names after it.
+module _ (at : ℕ) (fault : Option ScopeKind) (us vs : List Use) where
+  fine_three : fault ≡ None → first_broken us ≡ None → first_broken vs ≡ None → first_broken (record { at = at; fault = fault } ∷ (us ++ vs)) ≡ None
+  fine_three e f g = fine_first at fault (us ++ vs) e (fine_both us vs f g)
+
+  fails_second : (end : ScopeEnd) → fault ≡ None → Fails (first_broken us) end → Fails (first_broken (record { at = at; fault = fault } ∷ (us ++ vs))) end
+  fails_second end e fails = fails_later at fault (us ++ vs) end e (fails_front us vs end fails)
+
+  fails_third : (end : ScopeEnd) → fault ≡ None → first_broken us ≡ None → Fails (first_broken vs) end → Fails (first_broken (record { at = at; fault = fault } ∷ (us ++ vs))) end
+  fails_third end e f fails = fails_later at fault (us ++ vs) end e (fails_back us vs end f fails)
+
+-- data is wanted, or a part of a replica's first value
+abbrev pub WantsTerm : Role → Type 0
+WantsTerm Data = Unit {0}
+WantsTerm Function = ⊥
+WantsTerm From = Unit {0}
+
+-- Expressions that are terms.
+module _ (text : List Item) (G : Globals) (L : Locals) (e : SExpr) where
+  literal_wanted : (role : Role) → WantsTerm role → (at : ℕ) → literal_uses at role ≡ []
+  literal_wanted Data wants at = refl
+  literal_wanted Function wants at = absurd wants
+  literal_wanted From wants at = refl
+
+  -- a literal
+  pub literal_fine : (role : Role) → WantsTerm role → (w : ℕ) → e.kind ≡ Number w → Fine (expr_uses text G e role L) (IsTerm G L e) (raw_term e.at (kinds.Lit w))
+  literal_fine role wants w is =
+      let layer : out-SExprKind e.kind ≡ SExprKind-F.Number w = ap out-SExprKind is ∙ outs-Number w in
+      (ap first_broken (uses_of_layer text G e (SExprKind-F.Number w) layer role L ∙ literal_wanted role wants e.at),
+       subst (λ (y : SExprKind-F SExprKind SArm SExpr). IsTermLayer G L e.at y (raw_term e.at (kinds.Lit w))) (sym layer) (literal refl))
+
+  -- A construction.
+  module _ (role : Role) (wants : WantsTerm role) (name : Name) (types : List SType) (fields : List SExpr) (is : e.kind ≡ Upper name types fields) where
+    abbrev fields_uses : List Use
+    fields_uses = flat_map (λ (x : SExpr). expr_uses text G x role L) fields
+
+    construction_wanted : (r : Role) → WantsTerm r → construction_uses text G name types (map (expr_uses text G) fields) r L ≡ use_of name (constructor_fault text G name.text) ∷ (types_uses text G L.types types ++ flat_map (λ (x : SExpr). expr_uses text G x r L) fields)
+    construction_wanted Data wants = ap (λ us. use_of name (constructor_fault text G name.text) ∷ (types_uses text G L.types types ++ us)) (parts_are (expr_uses text G) Data L fields)
+    construction_wanted Function wants = absurd wants
+    construction_wanted From wants = ap (λ us. use_of name (constructor_fault text G name.text) ∷ (types_uses text G L.types types ++ us)) (parts_are (expr_uses text G) From L fields)
+
+    construction_layer : out-SExprKind e.kind ≡ SExprKind-F.Upper name types fields
+    construction_layer = ap out-SExprKind is ∙ outs-Upper name types fields
+
+    construction_uses_is : expr_uses text G e role L ≡ use_of name (constructor_fault text G name.text) ∷ (types_uses text G L.types types ++ fields_uses)
+    construction_uses_is = uses_of_layer text G e (SExprKind-F.Upper name types fields) construction_layer role L ∙ construction_wanted role wants
+
+    -- a construction whose parts are known
+    pub construction_fine : (con : Constructor) (ts : List RawTy) (fs : List RawTerm) → constructor_fault text G name.text ≡ None → constructor_of G name.text ≡ Some con → Fine (types_uses text G L.types types) (AreTypes G L.types types) ts → Fine fields_uses (AreTerms G L fields) fs → Fine (expr_uses text G e role L) (IsTerm G L e) (raw_term e.at (kinds.Con con.datatype con.number ts fs))
+    construction_fine con ts fs fault stands (fine, are) (fields_fine, are_fields) =
+        (ap first_broken construction_uses_is ∙ fine_three name.at (constructor_fault text G name.text) (types_uses text G L.types types) fields_uses fault fine fields_fine,
+         subst (λ (y : SExprKind-F SExprKind SArm SExpr). IsTermLayer G L e.at y (raw_term e.at (kinds.Con con.datatype con.number ts fs))) (sym construction_layer) (construction stands are are_fields refl))
+
+    module _ {Z : Type 0} (Is : Z → Type 0) (r : Result Z ScopeEnd) (end : ScopeEnd) (same : IsErrAnd r (λ x. x ≡ end)) where
+      -- a construction whose name fails
+      pub construction_name_fails : Fails (broken_or name.at (constructor_fault text G name.text) None) end → Resolves (expr_uses text G e role L) Is r
+      construction_name_fails fails = passed_on Is (expr_uses text G e role L) r end same (rw construction_uses_is (fails_first name.at (constructor_fault text G name.text) (types_uses text G L.types types ++ fields_uses) end fails))
+
+      -- a construction whose types fail
+      pub construction_types_fail : constructor_fault text G name.text ≡ None → Fails (first_broken (types_uses text G L.types types)) end → Resolves (expr_uses text G e role L) Is r
+      construction_types_fail fault fails = passed_on Is (expr_uses text G e role L) r end same (rw construction_uses_is (fails_second name.at (constructor_fault text G name.text) (types_uses text G L.types types) fields_uses end fault fails))
+
+      -- a construction whose fields fail
+      pub construction_fields_fail : constructor_fault text G name.text ≡ None → first_broken (types_uses text G L.types types) ≡ None → Fails (first_broken fields_uses) end → Resolves (expr_uses text G e role L) Is r
+      construction_fields_fail fault fine fails = passed_on Is (expr_uses text G e role L) r end same (rw construction_uses_is (fails_third name.at (constructor_fault text G name.text) (types_uses text G L.types types) fields_uses end fault fine fails))
+
+  from_is : (at : ℕ) (name : Name) (types : List SType) (args : Option (List SExpr)) → layer_uses text G (SExprKind-F.Lower name types args) at From L ≡ use_of name (from_fault text G name.text) ∷ []
+  from_is at name types None = refl
+  from_is at name types (Some args) = refl
+
+  -- a name with a small letter in a replica's first value
+  pub from_lower : (name : Name) (types : List SType) (args : Option (List SExpr)) (end : ScopeEnd) → e.kind ≡ Lower name types args → Fails (broken_or name.at (from_fault text G name.text) None) end → Fails (first_broken (expr_uses text G e From L)) end
+  from_lower name types args end is fails = rw (uses_of_layer text G e (SExprKind-F.Lower name types args) (ap out-SExprKind is ∙ outs-Lower name types args) From L ∙ from_is e.at name types args) fails
+
+  -- a match in a replica's first value
+  pub from_match : (on : SExpr) (arms : List SArm) (end : ScopeEnd) → e.kind ≡ Match on arms → end ≡ Fault WrongPlace e.at → Fails (first_broken (expr_uses text G e From L)) end
+  from_match on arms end is fault = rw (uses_of_layer text G e (SExprKind-F.Match on arms) (ap out-SExprKind is ∙ outs-Match on arms) From L, fault) refl
