@@ -1,5 +1,6 @@
 -- The names in functions, expressions and arms, and what their parts are.
-use Rattle.std.proofs.Common.{◌≡◌, ℕ, ◌+◌, ◌<◌, ◌≤◌, Bool, true, false, List, [], ◌∷◌, ◌++◌, map, length, take, drop, Option, Some, None, Result, refl, sym, ap, ◌∙◌, subst}
+use Rattle.std.proofs.Common.{◌≡◌, ℕ, ◌+◌, ◌<◌, ◌≤◌, Bool, true, false, List, [], ◌∷◌, ◌++◌, map, length, get_or, take, drop, Option, Some, None, Result, refl, sym, ap, ◌∙◌, subst, append_assoc}
+use Rattle.std.proofs.lemmas.List.{append-nil, map_more, take_all, take-map, drop-map}
 use Rattle.std.specs.Result.{IsErrAnd}
 use Rattle.std.specs.List.{flat_map, fold}
 use Rattle.std.specs.Option.{is_some}
@@ -20,7 +21,7 @@ use Rattle.px_terms.specs.declared.raw.RawKind.TheVariants as kinds
 use Rattle.px_terms.specs.declared.raw.RawTerm.{RawTerm}
 use Rattle.px_terms.specs.declared.raw.RawArm.{RawArm}
 use Rattle.px_scope.specs.declared.ends.ScopeKind.{ScopeKind}
-use Rattle.px_scope.specs.declared.ends.ScopeKind.TheVariants.{WrongPlace}
+use Rattle.px_scope.specs.declared.ends.ScopeKind.TheVariants.{WrongPlace, Repeated}
 use Rattle.px_scope.specs.declared.ends.ScopeEnd.{ScopeEnd}
 use Rattle.px_scope.specs.declared.ends.ScopeEnd.TheVariants.{Fault}
 use Rattle.px_scope.specs.declared.globals.Constructor.{Constructor}
@@ -31,13 +32,14 @@ use Rattle.px_scope.specs.declared.locals.Local.{Local}
 use Rattle.px_scope.specs.declared.locals.Local.TheVariants as local
 use Rattle.px_scope.specs.declared.locals.TypeLocals.{TypeLocals}
 use Rattle.px_scope.specs.declared.locals.Locals.{Locals}
+use Rattle.px_scope.specs.Names.{is_name}
 use Rattle.px_scope.specs.Later.{declares_lower}
 use Rattle.px_scope.specs.Standing.{constructor_of, meaning_of, local_of, head_of, function_places}
-use Rattle.px_scope.specs.Rules.{function_fault, function_fault_at, constructor_fault, constructor_argument_fault, value_fault, from_fault}
+use Rattle.px_scope.specs.Rules.{new_value_fault, function_fault, function_fault_at, constructor_fault, constructor_argument_fault, value_fault, from_fault}
 use Rattle.px_scope.specs.Uses.{Use, use_of, first_broken, broken_or, types_uses, Role, Data, Function, From, Seen, bind, bind_one, variables_uses, misplaced_use, literal_uses, construction_uses, arguments_uses, lower_uses, match_uses, kind_uses_step, arm_uses_step, expr_uses_step, expr_uses, arm_uses, function_uses}
 use Rattle.px_scope.specs.Numbers.{AreTypes, none, more, raw_fun, IsArgument, named, AreArguments, IsFunction, AreFunctions, raw_term, raw_arm, IsTermLayer, literal, construction, value, pattern, call, choice, AreTerms, no_terms, more_terms, AreArms, no_arms, more_arms, IsTerm, IsArm}
 use Rattle.px_scope.specs.Answers.{Fails, Fine, Resolves}
-use Rattle.px_scope.proofs.Firsts.{fine_first, fine_both, fails_first, fails_later, fails_front, fails_back, passed_on}
+use Rattle.px_scope.proofs.Firsts.{fine_first, fine_both, fails_first, fails_later, fails_front, fails_back, passed_on, along_next, along_fails, along_seen, fold_next, fold_seen}
 
 -- one function more
 pub functions_push : (G : Globals) (L : Locals) (fs : List SFun) (gs : List RawFun) (f : SFun) (g : RawFun) → AreFunctions G L fs gs → IsFunction G L f g → AreFunctions G L (fs ++ f ∷ []) (gs ++ g ∷ [])
@@ -230,3 +232,46 @@ module _ (text : List Item) (G : Globals) (L : Locals) (e : SExpr) where
   -- a match in a replica's first value
   pub from_match : (on : SExpr) (arms : List SArm) (end : ScopeEnd) → e.kind ≡ Match on arms → end ≡ Fault WrongPlace e.at → Fails (first_broken (expr_uses text G e From L)) end
   from_match on arms end is fault = rw (uses_of_layer text G e (SExprKind-F.Match on arms) (ap out-SExprKind is ∙ outs-Match on arms) From L, fault) refl
+
+-- a pattern's variables, one by one and together
+pub bind_all : (L : Locals) (vars : List Name) → fold bind_one L vars ≡ bind L vars
+bind_all L [] = ap (λ (names : List (List ℕ)). record L { names = names }) (sym (append-nil L.names))
+bind_all L (v ∷ vars) = bind_all (bind_one L v) vars ∙ ap (λ (names : List (List ℕ)). record L { names = names }) (append_assoc L.names (v.text ∷ []) (map (λ (x : Name). x.text) vars))
+
+abbrev variable_use : Locals → Name → List Use
+variable_use L v = use_of v (new_value_fault L v.text) ∷ []
+
+variable_free : (L : Locals) (v : Name) → is_name L.names v.text ≡ false → first_broken (variable_use L v) ≡ None
+variable_free L v known = rw known refl
+
+variable_repeated : (L : Locals) (v : Name) (end : ScopeEnd) → is_name L.names v.text ≡ true → end ≡ Fault Repeated v.at → Fails (first_broken (variable_use L v)) end
+variable_repeated L v end known fault = rw (known, fault) refl
+
+-- One of a pattern's variables, where M is local after those before it.
+module _ (L : Locals) (vars : List Name) (i : ℕ) (v : Name) (M : Locals) (within : i < length vars) (at : v ≡ get_or vars i v) (bound : M ≡ fold bind_one L (take i vars)) where
+  -- its name is not local yet
+  pub variable_next : first_broken (variables_uses L (take i vars)) ≡ None → is_name M.names v.text ≡ false → first_broken (variables_uses L (take (i + 1) vars)) ≡ None
+  variable_next fine known = along_next bind_one variable_use L vars i v within at fine (subst (λ (N : Locals). first_broken (variable_use N v) ≡ None) bound (variable_free M v known))
+
+  -- its name is local already
+  pub variable_fails : (end : ScopeEnd) → first_broken (variables_uses L (take i vars)) ≡ None → is_name M.names v.text ≡ true → end ≡ Fault Repeated v.at → Fails (first_broken (variables_uses L vars)) end
+  variable_fails end fine known fault = along_fails bind_one variable_use L vars i v within at fine end (subst (λ (N : Locals). Fails (first_broken (variable_use N v)) end) bound (variable_repeated M v end known fault))
+
+  -- what is local after it
+  pub variable_bound : bind_one M v ≡ fold bind_one L (take (i + 1) vars)
+  variable_bound = ap (λ (N : Locals). bind_one N v) bound ∙ sym (fold_next bind_one variable_use L vars i v within at)
+
+  -- the places so far
+  pub variable_place : (places out : List ℕ) → places ≡ map (λ (x : Name). x.at) (take i vars) → out ≡ places ++ v.at ∷ [] → out ≡ map (λ (x : Name). x.at) (take (i + 1) vars)
+  variable_place places out are e = e ∙ ap (λ (ps : List ℕ). ps ++ v.at ∷ []) are ∙ ap (λ (x : Name). map (λ (y : Name). y.at) (take i vars) ++ x.at ∷ []) at ∙ sym (map_more (λ (x : Name). x.at) vars i v within)
+
+-- all of a pattern's variables
+module _ (L : Locals) (vars : List Name) (i : ℕ) (ends : length vars ≤ i) where
+  pub variables_fine : first_broken (variables_uses L (take i vars)) ≡ None → first_broken (variables_uses L vars) ≡ None
+  variables_fine fine = along_seen bind_one variable_use L vars i ends fine
+
+  pub variables_bound : (M : Locals) → M ≡ fold bind_one L (take i vars) → M ≡ bind L vars
+  variables_bound M bound = bound ∙ fold_seen bind_one variable_use L vars i ends ∙ bind_all L vars
+
+  pub variables_places : (places : List ℕ) → places ≡ map (λ (x : Name). x.at) (take i vars) → places ≡ map (λ (x : Name). x.at) vars
+  variables_places places are = are ∙ ap (map (λ (x : Name). x.at)) (take_all i vars ends)
