@@ -17,6 +17,7 @@ use Rattle.px_parser.specs.declared.surface.Item.{Item}
 use Rattle.px_terms.specs.declared.types.Head.{Head}
 use Rattle.px_terms.specs.declared.raw.RawTy.{RawTy}
 use Rattle.px_terms.specs.declared.raw.RawFun.{RawFun}
+use Rattle.px_terms.specs.declared.raw.RawKind.{RawKind}
 use Rattle.px_terms.specs.declared.raw.RawKind.TheVariants as kinds
 use Rattle.px_terms.specs.declared.raw.RawTerm.{RawTerm}
 use Rattle.px_terms.specs.declared.raw.RawArm.{RawArm}
@@ -32,13 +33,15 @@ use Rattle.px_scope.specs.declared.locals.Local.{Local}
 use Rattle.px_scope.specs.declared.locals.Local.TheVariants as local
 use Rattle.px_scope.specs.declared.locals.TypeLocals.{TypeLocals}
 use Rattle.px_scope.specs.declared.locals.Locals.{Locals}
+use Rattle.px_scope.specs.declared.lookups.Variable.{Variable}
+use Rattle.px_scope.specs.declared.lookups.Variable.TheVariants as variable
 use Rattle.px_scope.specs.Names.{is_name}
 use Rattle.px_scope.specs.Later.{declares_lower}
 use Rattle.px_scope.specs.Standing.{constructor_of, meaning_of, local_of, head_of, function_places}
 use Rattle.px_scope.specs.Rules.{new_value_fault, function_fault, function_fault_at, constructor_fault, constructor_argument_fault, value_fault, from_fault}
 use Rattle.px_scope.specs.Uses.{Use, use_of, first_broken, broken_or, types_uses, Role, Data, Function, From, Seen, bind, bind_one, variables_uses, misplaced_use, literal_uses, construction_uses, arguments_uses, lower_uses, match_uses, kind_uses_step, arm_uses_step, expr_uses_step, expr_uses, arm_uses, function_uses}
 use Rattle.px_scope.specs.Numbers.{AreTypes, none, more, raw_fun, IsArgument, named, AreArguments, IsFunction, AreFunctions, raw_term, raw_arm, IsTermLayer, literal, construction, value, pattern, call, choice, AreTerms, no_terms, more_terms, AreArms, no_arms, more_arms, IsTerm, IsArm}
-use Rattle.px_scope.specs.Answers.{Fails, Fine, Resolves}
+use Rattle.px_scope.specs.Answers.{Fails, Fine, Resolves, IsVariable}
 use Rattle.px_scope.proofs.Firsts.{fine_first, fine_both, fails_first, fails_later, fails_front, fails_back, passed_on, along_next, along_fails, along_seen, fold_next, fold_seen}
 
 -- one function more
@@ -275,3 +278,133 @@ module _ (L : Locals) (vars : List Name) (i : ℕ) (ends : length vars ≤ i) wh
 
   pub variables_places : (places : List ℕ) → places ≡ map (λ (x : Name). x.at) (take i vars) → places ≡ map (λ (x : Name). x.at) vars
   variables_places places are = are ∙ ap (map (λ (x : Name). x.at)) (take_all i vars ends)
+
+-- the kind of a variable with these types
+abbrev pub variable_kind : Variable → List RawTy → RawKind
+variable_kind (variable.Value n) ts = kinds.Free n ts
+variable_kind (variable.Pattern n) ts = kinds.Bound n ts
+
+module _ (text : List Item) (G : Globals) (L : Locals) (e : SExpr) where
+  -- A variable.
+  module _ (name : Name) (types : List SType) (is : e.kind ≡ Lower name types None) where
+    variable_layer : out-SExprKind e.kind ≡ SExprKind-F.Lower name types None
+    variable_layer = ap out-SExprKind is ∙ outs-Lower name types None
+
+    variable_uses_is : expr_uses text G e Data L ≡ use_of name (value_fault text G L name.text false) ∷ (types_uses text G L.types types ++ [])
+    variable_uses_is = uses_of_layer text G e (SExprKind-F.Lower name types None) variable_layer Data L
+
+    variable_term : (v : Variable) (ts : List RawTy) → IsVariable L name.text v → AreTypes G L.types types ts → IsTermLayer G L e.at (SExprKind-F.Lower name types None) (raw_term e.at (variable_kind v ts))
+    variable_term (variable.Value n) ts stands are = value stands are refl
+    variable_term (variable.Pattern n) ts stands are = pattern stands are refl
+
+    -- a variable that is known, and its types
+    pub variable_fine : (v : Variable) (ts : List RawTy) → value_fault text G L name.text false ≡ None → IsVariable L name.text v → Fine (types_uses text G L.types types) (AreTypes G L.types types) ts → Fine (expr_uses text G e Data L) (IsTerm G L e) (raw_term e.at (variable_kind v ts))
+    variable_fine v ts fault stands (fine, are) =
+        (ap first_broken variable_uses_is ∙ fine_three name.at (value_fault text G L name.text false) (types_uses text G L.types types) [] fault fine refl,
+         subst (λ (y : SExprKind-F SExprKind SArm SExpr). IsTermLayer G L e.at y (raw_term e.at (variable_kind v ts))) (sym variable_layer) (variable_term v ts stands are))
+
+    module _ {Z : Type 0} (Is : Z → Type 0) (r : Result Z ScopeEnd) (end : ScopeEnd) (same : IsErrAnd r (λ x. x ≡ end)) where
+      -- a variable whose name fails
+      pub variable_name_fails : Fails (broken_or name.at (value_fault text G L name.text false) None) end → Resolves (expr_uses text G e Data L) Is r
+      variable_name_fails fails = passed_on Is (expr_uses text G e Data L) r end same (rw variable_uses_is (fails_first name.at (value_fault text G L name.text false) (types_uses text G L.types types ++ []) end fails))
+
+      -- a variable whose types fail
+      pub variable_types_fail : value_fault text G L name.text false ≡ None → Fails (first_broken (types_uses text G L.types types)) end → Resolves (expr_uses text G e Data L) Is r
+      variable_types_fail fault fails = passed_on Is (expr_uses text G e Data L) r end same (rw variable_uses_is (fails_second name.at (value_fault text G L name.text false) (types_uses text G L.types types) [] end fault fails))
+
+  -- A call, so many of whose first arguments are functions.
+  module _ (name : Name) (types : List SType) (args : List SExpr) (is : e.kind ≡ Lower name types (Some args)) (places : ℕ) (are_places : function_places G L name.text ≡ places) where
+    call_layer : out-SExprKind e.kind ≡ SExprKind-F.Lower name types (Some args)
+    call_layer = ap out-SExprKind is ∙ outs-Lower name types (Some args)
+
+    abbrev funs_uses : List Use
+    funs_uses = flat_map (λ (x : SExpr). expr_uses text G x Function L) (take places args)
+
+    abbrev data_uses : List Use
+    data_uses = flat_map (λ (x : SExpr). expr_uses text G x Data L) (drop places args)
+
+    arguments_are : arguments_uses places L (Some (map (expr_uses text G) args)) ≡ funs_uses ++ data_uses
+    arguments_are = rw (take-map (expr_uses text G) places args, drop-map (expr_uses text G) places args, parts_are (expr_uses text G) Function L (take places args), parts_are (expr_uses text G) Data L (drop places args)) refl
+
+    call_uses_is : expr_uses text G e Data L ≡ use_of name (value_fault text G L name.text true) ∷ (types_uses text G L.types types ++ (funs_uses ++ data_uses))
+    call_uses_is =
+        uses_of_layer text G e (SExprKind-F.Lower name types (Some args)) call_layer Data L
+        ∙ ap (λ (n : ℕ). use_of name (value_fault text G L name.text true) ∷ (types_uses text G L.types types ++ arguments_uses n L (Some (map (expr_uses text G) args)))) are_places
+        ∙ ap (λ us. use_of name (value_fault text G L name.text true) ∷ (types_uses text G L.types types ++ us)) arguments_are
+
+    -- a call whose parts are known
+    pub call_fine : (head : Head) (ts : List RawTy) (funs : List RawFun) (terms : List RawTerm) → value_fault text G L name.text true ≡ None → head_of G L name.text ≡ Some head → Fine (types_uses text G L.types types) (AreTypes G L.types types) ts → Fine funs_uses (AreArguments G L (take places args)) funs → Fine data_uses (AreTerms G L (drop places args)) terms → Fine (expr_uses text G e Data L) (IsTerm G L e) (raw_term e.at (kinds.Call (raw_fun name head ts) funs terms))
+    call_fine head ts funs terms fault stands (fine, are) (funs_fine, are_funs) (terms_fine, are_terms) =
+        (ap first_broken call_uses_is ∙ fine_three name.at (value_fault text G L name.text true) (types_uses text G L.types types) (funs_uses ++ data_uses) fault fine (fine_both funs_uses data_uses funs_fine terms_fine),
+         subst (λ (y : SExprKind-F SExprKind SArm SExpr). IsTermLayer G L e.at y (raw_term e.at (kinds.Call (raw_fun name head ts) funs terms))) (sym call_layer)
+         (call stands are (subst (λ (n : ℕ). AreArguments G L (take n args) funs) (sym are_places) are_funs) (subst (λ (n : ℕ). AreTerms G L (drop n args) terms) (sym are_places) are_terms) refl))
+
+    module _ {Z : Type 0} (Is : Z → Type 0) (r : Result Z ScopeEnd) (end : ScopeEnd) (same : IsErrAnd r (λ x. x ≡ end)) where
+      -- a call whose types fail
+      pub call_types_fail : value_fault text G L name.text true ≡ None → Fails (first_broken (types_uses text G L.types types)) end → Resolves (expr_uses text G e Data L) Is r
+      call_types_fail fault fails = passed_on Is (expr_uses text G e Data L) r end same (rw call_uses_is (fails_second name.at (value_fault text G L name.text true) (types_uses text G L.types types) (funs_uses ++ data_uses) end fault fails))
+
+      -- a call whose functions fail
+      pub call_functions_fail : value_fault text G L name.text true ≡ None → first_broken (types_uses text G L.types types) ≡ None → Fails (first_broken funs_uses) end → Resolves (expr_uses text G e Data L) Is r
+      call_functions_fail fault fine fails = passed_on Is (expr_uses text G e Data L) r end same (rw call_uses_is (fails_third name.at (value_fault text G L name.text true) (types_uses text G L.types types) (funs_uses ++ data_uses) end fault fine (fails_front funs_uses data_uses end fails)))
+
+      -- a call whose other arguments fail
+      pub call_arguments_fail : value_fault text G L name.text true ≡ None → first_broken (types_uses text G L.types types) ≡ None → first_broken funs_uses ≡ None → Fails (first_broken data_uses) end → Resolves (expr_uses text G e Data L) Is r
+      call_arguments_fail fault fine funs_fine fails = passed_on Is (expr_uses text G e Data L) r end same (rw call_uses_is (fails_third name.at (value_fault text G L name.text true) (types_uses text G L.types types) (funs_uses ++ data_uses) end fault fine (fails_back funs_uses data_uses end funs_fine fails)))
+
+  -- a call whose name fails
+  pub call_name_fails : (name : Name) (types : List SType) (args : List SExpr) → e.kind ≡ Lower name types (Some args) → {Z : Type 0} (Is : Z → Type 0) (r : Result Z ScopeEnd) (end : ScopeEnd) → IsErrAnd r (λ x. x ≡ end) → Fails (broken_or name.at (value_fault text G L name.text true) None) end → Resolves (expr_uses text G e Data L) Is r
+  call_name_fails name types args is Is r end same fails =
+      passed_on Is (expr_uses text G e Data L) r end same
+      (rw (call_uses_is name types args is (function_places G L name.text) refl)
+       (fails_first name.at (value_fault text G L name.text true) (types_uses text G L.types types ++ (funs_uses name types args is (function_places G L name.text) refl ++ data_uses name types args is (function_places G L name.text) refl)) end fails))
+
+  -- A match.
+  module _ (on : SExpr) (arms : List SArm) (is : e.kind ≡ Match on arms) where
+    match_layer : out-SExprKind e.kind ≡ SExprKind-F.Match on arms
+    match_layer = ap out-SExprKind is ∙ outs-Match on arms
+
+    abbrev arms_uses : List Use
+    arms_uses = flat_map (λ (x : SArm). arm_uses text G x L) arms
+
+    match_uses_is : expr_uses text G e Data L ≡ expr_uses text G on Data L ++ arms_uses
+    match_uses_is = uses_of_layer text G e (SExprKind-F.Match on arms) match_layer Data L ∙ ap (λ us. expr_uses text G on Data L ++ us) (arms_are (arm_uses text G) L arms)
+
+    -- a match whose parts are known
+    pub match_fine : (scrutinee : RawTerm) (cases : List RawArm) → Fine (expr_uses text G on Data L) (IsTerm G L on) scrutinee → Fine arms_uses (AreArms G L arms) cases → Fine (expr_uses text G e Data L) (IsTerm G L e) (raw_term e.at (kinds.Match scrutinee cases))
+    match_fine scrutinee cases (fine, is_on) (arms_fine, are) =
+        (ap first_broken match_uses_is ∙ fine_both (expr_uses text G on Data L) arms_uses fine arms_fine,
+         subst (λ (y : SExprKind-F SExprKind SArm SExpr). IsTermLayer G L e.at y (raw_term e.at (kinds.Match scrutinee cases))) (sym match_layer) (choice is_on are refl))
+
+    module _ {Z : Type 0} (Is : Z → Type 0) (r : Result Z ScopeEnd) (end : ScopeEnd) (same : IsErrAnd r (λ x. x ≡ end)) where
+      -- a match on what fails
+      pub match_on_fails : Fails (first_broken (expr_uses text G on Data L)) end → Resolves (expr_uses text G e Data L) Is r
+      match_on_fails fails = passed_on Is (expr_uses text G e Data L) r end same (rw match_uses_is (fails_front (expr_uses text G on Data L) arms_uses end fails))
+
+      -- a match whose arms fail
+      pub match_arms_fail : first_broken (expr_uses text G on Data L) ≡ None → Fails (first_broken arms_uses) end → Resolves (expr_uses text G e Data L) Is r
+      match_arms_fail fine fails = passed_on Is (expr_uses text G e Data L) r end same (rw match_uses_is (fails_back (expr_uses text G on Data L) arms_uses end fine fails))
+
+-- Arms.
+module _ (text : List Item) (G : Globals) (L : Locals) (arm : SArm) where
+  abbrev body_uses : List Use
+  body_uses = expr_uses text G arm.body Data (bind L arm.vars)
+
+  -- an arm whose parts are known
+  pub arm_fine : (con : Constructor) (vars : List ℕ) (body : RawTerm) → constructor_fault text G arm.name.text ≡ None → constructor_of G arm.name.text ≡ Some con → Fine (variables_uses L arm.vars) (λ (ps : List ℕ). ps ≡ map (λ (v : Name). v.at) arm.vars) vars → Fine body_uses (IsTerm G (bind L arm.vars) arm.body) body → Fine (arm_uses text G arm L) (IsArm G L arm) (record { at = arm.name.at; datatype = con.datatype; con = con.number; vars = vars; body = body })
+  arm_fine con vars body fault stands (vars_fine, are) (fine, is_body) =
+      (ap first_broken (arm_uses_is text G arm L) ∙ fine_three arm.name.at (constructor_fault text G arm.name.text) (variables_uses L arm.vars) body_uses fault vars_fine fine,
+       record { con = con; body = body; stands = stands; is_body = is_body; is = ap (λ (ps : List ℕ). record { at = arm.name.at; datatype = con.datatype; con = con.number; vars = ps; body = body }) are })
+
+  module _ {Z : Type 0} (Is : Z → Type 0) (r : Result Z ScopeEnd) (end : ScopeEnd) (same : IsErrAnd r (λ x. x ≡ end)) where
+    -- an arm whose constructor fails
+    pub arm_name_fails : Fails (broken_or arm.name.at (constructor_fault text G arm.name.text) None) end → Resolves (arm_uses text G arm L) Is r
+    arm_name_fails fails = passed_on Is (arm_uses text G arm L) r end same (rw (arm_uses_is text G arm L) (fails_first arm.name.at (constructor_fault text G arm.name.text) (variables_uses L arm.vars ++ body_uses) end fails))
+
+    -- an arm whose variables fail
+    pub arm_variables_fail : constructor_fault text G arm.name.text ≡ None → Fails (first_broken (variables_uses L arm.vars)) end → Resolves (arm_uses text G arm L) Is r
+    arm_variables_fail fault fails = passed_on Is (arm_uses text G arm L) r end same (rw (arm_uses_is text G arm L) (fails_second arm.name.at (constructor_fault text G arm.name.text) (variables_uses L arm.vars) body_uses end fault fails))
+
+    -- an arm whose body fails
+    pub arm_body_fails : constructor_fault text G arm.name.text ≡ None → first_broken (variables_uses L arm.vars) ≡ None → Fails (first_broken body_uses) end → Resolves (arm_uses text G arm L) Is r
+    arm_body_fails fault fine fails = passed_on Is (arm_uses text G arm L) r end same (rw (arm_uses_is text G arm L) (fails_third arm.name.at (constructor_fault text G arm.name.text) (variables_uses L arm.vars) body_uses end fault fine fails))

@@ -121,8 +121,8 @@ fn resolve_terms(
     ensures locals { OnOk result (locals.new ≡ locals.old) }
 {
     let mut terms = Items::new(alloc);
-    for i in skipped..exprs.len() {
-        terms.push(resolve_term(alloc, text, globals, locals, &exprs[i])?)?;
+    for expr in &exprs[skipped.min(exprs.len())..] {
+        terms.push(resolve_term(alloc, text, globals, locals, expr)?)?;
     }
     Ok(terms)
 }
