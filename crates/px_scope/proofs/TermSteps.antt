@@ -31,7 +31,6 @@ use Rattle.px_scope.specs.declared.globals.Meaning.TheVariants as meaning
 use Rattle.px_scope.specs.declared.globals.Globals.{Globals}
 use Rattle.px_scope.specs.declared.locals.Local.{Local}
 use Rattle.px_scope.specs.declared.locals.Local.TheVariants as local
-use Rattle.px_scope.specs.declared.locals.TypeLocals.{TypeLocals}
 use Rattle.px_scope.specs.declared.locals.Locals.{Locals}
 use Rattle.px_scope.specs.declared.lookups.Variable.{Variable}
 use Rattle.px_scope.specs.declared.lookups.Variable.TheVariants as variable
@@ -39,8 +38,8 @@ use Rattle.px_scope.specs.Names.{is_name}
 use Rattle.px_scope.specs.Later.{declares_lower}
 use Rattle.px_scope.specs.Standing.{constructor_of, meaning_of, local_of, head_of, function_places}
 use Rattle.px_scope.specs.Rules.{new_value_fault, function_fault, function_fault_at, constructor_fault, constructor_argument_fault, value_fault, from_fault}
-use Rattle.px_scope.specs.Uses.{Use, use_of, first_broken, broken_or, types_uses, Role, Data, Function, From, Seen, bind, bind_one, variables_uses, misplaced_use, literal_uses, construction_uses, arguments_uses, lower_uses, match_uses, kind_uses_step, arm_uses_step, expr_uses_step, expr_uses, arm_uses, function_uses}
-use Rattle.px_scope.specs.Numbers.{AreTypes, none, more, raw_fun, IsArgument, named, AreArguments, IsFunction, AreFunctions, raw_term, raw_arm, IsTermLayer, literal, construction, value, pattern, call, choice, AreTerms, no_terms, more_terms, AreArms, no_arms, more_arms, IsTerm, IsArm}
+use Rattle.px_scope.specs.Uses.{Use, use_of, first_broken, broken_or, types_uses, Role, Data, Function, From, Seen, bind, bind_one, variables_uses, literal_uses, construction_uses, arguments_uses, lower_uses, match_uses, kind_uses_step, arm_uses_step, expr_uses_step, expr_uses, arm_uses}
+use Rattle.px_scope.specs.Numbers.{AreTypes, none, more, raw_fun, IsArgument, named, AreArguments, IsFunction, AreFunctions, raw_term, IsTermLayer, literal, construction, value, pattern, call, choice, AreTerms, no_terms, more_terms, AreArms, no_arms, more_arms, IsTerm, IsArm}
 use Rattle.px_scope.specs.Answers.{Fails, Fine, Resolves, IsVariable}
 use Rattle.px_scope.proofs.Firsts.{fine_first, fine_both, fails_first, fails_later, fails_front, fails_back, passed_on, along_next, along_fails, along_seen, fold_next, fold_seen}
 
@@ -132,9 +131,10 @@ module _ (text : List Item) (G : Globals) where
     -- a function argument, where what its name stands for is known, and its types
     pub argument_fine : (args : Option (List SExpr)) (head : Head) (ts : List RawTy) → e.kind ≡ Lower name types args → function_fault text G L name.text (is_some args) ≡ None → head_of G L name.text ≡ Some head → Fine (types_uses text G L.types types) (AreTypes G L.types types) ts → Fine (expr_uses text G e Function L) (IsArgument G L (out-SExprKind e.kind)) (raw_fun name head ts)
     argument_fine (Some args) head ts is fault stands (fine, are) = absurd (no_call (declares_lower text name.text) L (local_of L name.text) (meaning_of G name.text) fault)
-    argument_fine None head ts is fault stands (fine, are) =
-        (ap first_broken (argument_uses_is None is) ∙ fine_first name.at (function_fault text G L name.text false) (types_uses text G L.types types) fault fine,
-         subst (λ (y : SExprKind-F SExprKind SArm SExpr). IsArgument G L y (raw_fun name head ts)) (sym (ap out-SExprKind is ∙ outs-Lower name types None)) (named stands are refl))
+    argument_fine None head ts is fault stands (fine, are) = (
+      ap first_broken (argument_uses_is None is) ∙ fine_first name.at (function_fault text G L name.text false) (types_uses text G L.types types) fault fine,
+      subst (λ (y : SExprKind-F SExprKind SArm SExpr). IsArgument G L y (raw_fun name head ts)) (sym (ap out-SExprKind is ∙ outs-Lower name types None)) (named stands are refl),
+    )
 
     module _ {Z : Type 0} (Is : Z → Type 0) (args : Option (List SExpr)) (is : e.kind ≡ Lower name types args) (r : Result Z ScopeEnd) (end : ScopeEnd) (same : IsErrAnd r (λ x. x ≡ end)) where
       -- a function argument whose name fails
@@ -185,9 +185,10 @@ module _ (text : List Item) (G : Globals) (L : Locals) (e : SExpr) where
   -- a literal
   pub literal_fine : (role : Role) → WantsTerm role → (w : ℕ) → e.kind ≡ Number w → Fine (expr_uses text G e role L) (IsTerm G L e) (raw_term e.at (kinds.Lit w))
   literal_fine role wants w is =
-      let layer : out-SExprKind e.kind ≡ SExprKind-F.Number w = ap out-SExprKind is ∙ outs-Number w in
-      (ap first_broken (uses_of_layer text G e (SExprKind-F.Number w) layer role L ∙ literal_wanted role wants e.at),
-       subst (λ (y : SExprKind-F SExprKind SArm SExpr). IsTermLayer G L e.at y (raw_term e.at (kinds.Lit w))) (sym layer) (literal refl))
+      let layer : out-SExprKind e.kind ≡ SExprKind-F.Number w = ap out-SExprKind is ∙ outs-Number w in (
+        ap first_broken (uses_of_layer text G e (SExprKind-F.Number w) layer role L ∙ literal_wanted role wants e.at),
+        subst (λ (y : SExprKind-F SExprKind SArm SExpr). IsTermLayer G L e.at y (raw_term e.at (kinds.Lit w))) (sym layer) (literal refl),
+      )
 
   -- A construction.
   module _ (role : Role) (wants : WantsTerm role) (name : Name) (types : List SType) (fields : List SExpr) (is : e.kind ≡ Upper name types fields) where
@@ -207,9 +208,10 @@ module _ (text : List Item) (G : Globals) (L : Locals) (e : SExpr) where
 
     -- a construction whose parts are known
     pub construction_fine : (con : Constructor) (ts : List RawTy) (fs : List RawTerm) → constructor_fault text G name.text ≡ None → constructor_of G name.text ≡ Some con → Fine (types_uses text G L.types types) (AreTypes G L.types types) ts → Fine fields_uses (AreTerms G L fields) fs → Fine (expr_uses text G e role L) (IsTerm G L e) (raw_term e.at (kinds.Con con.datatype con.number ts fs))
-    construction_fine con ts fs fault stands (fine, are) (fields_fine, are_fields) =
-        (ap first_broken construction_uses_is ∙ fine_three name.at (constructor_fault text G name.text) (types_uses text G L.types types) fields_uses fault fine fields_fine,
-         subst (λ (y : SExprKind-F SExprKind SArm SExpr). IsTermLayer G L e.at y (raw_term e.at (kinds.Con con.datatype con.number ts fs))) (sym construction_layer) (construction stands are are_fields refl))
+    construction_fine con ts fs fault stands (fine, are) (fields_fine, are_fields) = (
+      ap first_broken construction_uses_is ∙ fine_three name.at (constructor_fault text G name.text) (types_uses text G L.types types) fields_uses fault fine fields_fine,
+      subst (λ (y : SExprKind-F SExprKind SArm SExpr). IsTermLayer G L e.at y (raw_term e.at (kinds.Con con.datatype con.number ts fs))) (sym construction_layer) (construction stands are are_fields refl),
+    )
 
     module _ {Z : Type 0} (Is : Z → Type 0) (r : Result Z ScopeEnd) (end : ScopeEnd) (same : IsErrAnd r (λ x. x ≡ end)) where
       -- a construction whose name fails
@@ -268,14 +270,17 @@ module _ (L : Locals) (vars : List Name) (i : ℕ) (v : Name) (M : Locals) (with
   pub variable_place : (places out : List ℕ) → places ≡ map (λ (x : Name). x.at) (take i vars) → out ≡ places ++ v.at ∷ [] → out ≡ map (λ (x : Name). x.at) (take (i + 1) vars)
   variable_place places out are e = e ∙ ap (λ (ps : List ℕ). ps ++ v.at ∷ []) are ∙ ap (λ (x : Name). map (λ (y : Name). y.at) (take i vars) ++ x.at ∷ []) at ∙ sym (map_more (λ (x : Name). x.at) vars i v within)
 
--- all of a pattern's variables
+-- All of a pattern's variables were seen.
 module _ (L : Locals) (vars : List Name) (i : ℕ) (ends : length vars ≤ i) where
+  -- their names were not local yet
   pub variables_fine : first_broken (variables_uses L (take i vars)) ≡ None → first_broken (variables_uses L vars) ≡ None
   variables_fine fine = along_seen bind_one variable_use L vars i ends fine
 
+  -- what is local after them
   pub variables_bound : (M : Locals) → M ≡ fold bind_one L (take i vars) → M ≡ bind L vars
   variables_bound M bound = bound ∙ fold_seen bind_one variable_use L vars i ends ∙ bind_all L vars
 
+  -- their places
   pub variables_places : (places : List ℕ) → places ≡ map (λ (x : Name). x.at) (take i vars) → places ≡ map (λ (x : Name). x.at) vars
   variables_places places are = are ∙ ap (map (λ (x : Name). x.at)) (take_all i vars ends)
 
@@ -299,9 +304,10 @@ module _ (text : List Item) (G : Globals) (L : Locals) (e : SExpr) where
 
     -- a variable that is known, and its types
     pub variable_fine : (v : Variable) (ts : List RawTy) → value_fault text G L name.text false ≡ None → IsVariable L name.text v → Fine (types_uses text G L.types types) (AreTypes G L.types types) ts → Fine (expr_uses text G e Data L) (IsTerm G L e) (raw_term e.at (variable_kind v ts))
-    variable_fine v ts fault stands (fine, are) =
-        (ap first_broken variable_uses_is ∙ fine_three name.at (value_fault text G L name.text false) (types_uses text G L.types types) [] fault fine refl,
-         subst (λ (y : SExprKind-F SExprKind SArm SExpr). IsTermLayer G L e.at y (raw_term e.at (variable_kind v ts))) (sym variable_layer) (variable_term v ts stands are))
+    variable_fine v ts fault stands (fine, are) = (
+      ap first_broken variable_uses_is ∙ fine_three name.at (value_fault text G L name.text false) (types_uses text G L.types types) [] fault fine refl,
+      subst (λ (y : SExprKind-F SExprKind SArm SExpr). IsTermLayer G L e.at y (raw_term e.at (variable_kind v ts))) (sym variable_layer) (variable_term v ts stands are),
+    )
 
     module _ {Z : Type 0} (Is : Z → Type 0) (r : Result Z ScopeEnd) (end : ScopeEnd) (same : IsErrAnd r (λ x. x ≡ end)) where
       -- a variable whose name fails
@@ -334,10 +340,11 @@ module _ (text : List Item) (G : Globals) (L : Locals) (e : SExpr) where
 
     -- a call whose parts are known
     pub call_fine : (head : Head) (ts : List RawTy) (funs : List RawFun) (terms : List RawTerm) → value_fault text G L name.text true ≡ None → head_of G L name.text ≡ Some head → Fine (types_uses text G L.types types) (AreTypes G L.types types) ts → Fine funs_uses (AreArguments G L (take places args)) funs → Fine data_uses (AreTerms G L (drop places args)) terms → Fine (expr_uses text G e Data L) (IsTerm G L e) (raw_term e.at (kinds.Call (raw_fun name head ts) funs terms))
-    call_fine head ts funs terms fault stands (fine, are) (funs_fine, are_funs) (terms_fine, are_terms) =
-        (ap first_broken call_uses_is ∙ fine_three name.at (value_fault text G L name.text true) (types_uses text G L.types types) (funs_uses ++ data_uses) fault fine (fine_both funs_uses data_uses funs_fine terms_fine),
-         subst (λ (y : SExprKind-F SExprKind SArm SExpr). IsTermLayer G L e.at y (raw_term e.at (kinds.Call (raw_fun name head ts) funs terms))) (sym call_layer)
-         (call stands are (subst (λ (n : ℕ). AreArguments G L (take n args) funs) (sym are_places) are_funs) (subst (λ (n : ℕ). AreTerms G L (drop n args) terms) (sym are_places) are_terms) refl))
+    call_fine head ts funs terms fault stands (fine, are) (funs_fine, are_funs) (terms_fine, are_terms) = (
+      ap first_broken call_uses_is ∙ fine_three name.at (value_fault text G L name.text true) (types_uses text G L.types types) (funs_uses ++ data_uses) fault fine (fine_both funs_uses data_uses funs_fine terms_fine),
+      subst (λ (y : SExprKind-F SExprKind SArm SExpr). IsTermLayer G L e.at y (raw_term e.at (kinds.Call (raw_fun name head ts) funs terms))) (sym call_layer)
+          (call stands are (subst (λ (n : ℕ). AreArguments G L (take n args) funs) (sym are_places) are_funs) (subst (λ (n : ℕ). AreTerms G L (drop n args) terms) (sym are_places) are_terms) refl),
+    )
 
     module _ {Z : Type 0} (Is : Z → Type 0) (r : Result Z ScopeEnd) (end : ScopeEnd) (same : IsErrAnd r (λ x. x ≡ end)) where
       -- a call whose types fail
@@ -357,7 +364,7 @@ module _ (text : List Item) (G : Globals) (L : Locals) (e : SExpr) where
   call_name_fails name types args is Is r end same fails =
       passed_on Is (expr_uses text G e Data L) r end same
       (rw (call_uses_is name types args is (function_places G L name.text) refl)
-       (fails_first name.at (value_fault text G L name.text true) (types_uses text G L.types types ++ (funs_uses name types args is (function_places G L name.text) refl ++ data_uses name types args is (function_places G L name.text) refl)) end fails))
+      (fails_first name.at (value_fault text G L name.text true) (types_uses text G L.types types ++ (funs_uses name types args is (function_places G L name.text) refl ++ data_uses name types args is (function_places G L name.text) refl)) end fails))
 
   -- A match.
   module _ (on : SExpr) (arms : List SArm) (is : e.kind ≡ Match on arms) where
@@ -372,9 +379,10 @@ module _ (text : List Item) (G : Globals) (L : Locals) (e : SExpr) where
 
     -- a match whose parts are known
     pub match_fine : (scrutinee : RawTerm) (cases : List RawArm) → Fine (expr_uses text G on Data L) (IsTerm G L on) scrutinee → Fine arms_uses (AreArms G L arms) cases → Fine (expr_uses text G e Data L) (IsTerm G L e) (raw_term e.at (kinds.Match scrutinee cases))
-    match_fine scrutinee cases (fine, is_on) (arms_fine, are) =
-        (ap first_broken match_uses_is ∙ fine_both (expr_uses text G on Data L) arms_uses fine arms_fine,
-         subst (λ (y : SExprKind-F SExprKind SArm SExpr). IsTermLayer G L e.at y (raw_term e.at (kinds.Match scrutinee cases))) (sym match_layer) (choice is_on are refl))
+    match_fine scrutinee cases (fine, is_on) (arms_fine, are) = (
+      ap first_broken match_uses_is ∙ fine_both (expr_uses text G on Data L) arms_uses fine arms_fine,
+      subst (λ (y : SExprKind-F SExprKind SArm SExpr). IsTermLayer G L e.at y (raw_term e.at (kinds.Match scrutinee cases))) (sym match_layer) (choice is_on are refl),
+    )
 
     module _ {Z : Type 0} (Is : Z → Type 0) (r : Result Z ScopeEnd) (end : ScopeEnd) (same : IsErrAnd r (λ x. x ≡ end)) where
       -- a match on what fails
@@ -392,9 +400,10 @@ module _ (text : List Item) (G : Globals) (L : Locals) (arm : SArm) where
 
   -- an arm whose parts are known
   pub arm_fine : (con : Constructor) (vars : List ℕ) (body : RawTerm) → constructor_fault text G arm.name.text ≡ None → constructor_of G arm.name.text ≡ Some con → Fine (variables_uses L arm.vars) (λ (ps : List ℕ). ps ≡ map (λ (v : Name). v.at) arm.vars) vars → Fine body_uses (IsTerm G (bind L arm.vars) arm.body) body → Fine (arm_uses text G arm L) (IsArm G L arm) (record { at = arm.name.at; datatype = con.datatype; con = con.number; vars = vars; body = body })
-  arm_fine con vars body fault stands (vars_fine, are) (fine, is_body) =
-      (ap first_broken (arm_uses_is text G arm L) ∙ fine_three arm.name.at (constructor_fault text G arm.name.text) (variables_uses L arm.vars) body_uses fault vars_fine fine,
-       record { con = con; body = body; stands = stands; is_body = is_body; is = ap (λ (ps : List ℕ). record { at = arm.name.at; datatype = con.datatype; con = con.number; vars = ps; body = body }) are })
+  arm_fine con vars body fault stands (vars_fine, are) (fine, is_body) = (
+    ap first_broken (arm_uses_is text G arm L) ∙ fine_three arm.name.at (constructor_fault text G arm.name.text) (variables_uses L arm.vars) body_uses fault vars_fine fine,
+    record { con = con; body = body; stands = stands; is_body = is_body; is = ap (λ (ps : List ℕ). record { at = arm.name.at; datatype = con.datatype; con = con.number; vars = ps; body = body }) are },
+  )
 
   module _ {Z : Type 0} (Is : Z → Type 0) (r : Result Z ScopeEnd) (end : ScopeEnd) (same : IsErrAnd r (λ x. x ≡ end)) where
     -- an arm whose constructor fails

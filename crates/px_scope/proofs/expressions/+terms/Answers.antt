@@ -43,7 +43,7 @@ resolve_term-returns-in_err-types-in-None-clause-resolves t c = variable_types_f
 pub resolve_term-returns-after-variable-clause-resolves : goal.resolve_term-returns-after-variable-clause-resolves
 resolve_term-returns-after-variable-clause-resolves t c =
     let kind_is : c.match-variable.kind ≡ variable_kind c.in_ok-variable-in-None.variable c.in_ok-types-in-None.types = elim c.match-variable.branch [
-      resolve_term-in-Value w ↦ w.kind-is ∙ sym (ap (λ (v : Variable). variable_kind v c.in_ok-types-in-None.types) w.in-Value.is)
+      | resolve_term-in-Value w ↦ w.kind-is ∙ sym (ap (λ (v : Variable). variable_kind v c.in_ok-types-in-None.types) w.in-Value.is)
       | resolve_term-in-Pattern w ↦ w.kind-is ∙ sym (ap (λ (v : Variable). variable_kind v c.in_ok-types-in-None.types) w.in-Pattern.is)
     ] in
     subst (λ (k : RawKind). Fine (expr_uses c.args.text.now c.args.globals.now c.args.expr.now Data c.args.locals.now) (IsTerm c.args.globals.now c.args.locals.now c.args.expr.now) (raw_term c.args.expr.now.at k)) (sym kind_is)

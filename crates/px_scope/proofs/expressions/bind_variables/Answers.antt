@@ -1,6 +1,5 @@
-use Rattle.std.proofs.Common.{◌≡◌, ℕ, Bool, true, false, not, List, [], ◌∷◌, ◌++◌, refl, ap, ◌∙◌}
+use Rattle.std.proofs.Common.{◌≡◌, ℕ, Bool, not, List, [], ◌∷◌, ◌++◌, refl, ap, ◌∙◌}
 use Rattle.std.specs.Bool.{if◌then◌else◌}
-use Rattle.px_scope.specs.Names.{is_name}
 use Rattle.px_scope.proofs.TermSteps.{variable_next, variable_fails, variable_bound, variable_place, variables_fine, variables_bound, variables_places}
 use Rattle.px_scope.proofs.expressions.bind_variables.Goals as goal
 

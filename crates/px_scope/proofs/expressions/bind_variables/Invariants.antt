@@ -1,7 +1,6 @@
 use Rattle.std.proofs.Common.{◌≡◌, map, take, None}
 use Rattle.std.specs.List.{fold}
 use Rattle.px_parser.specs.declared.surface.Name.{Name}
-use Rattle.px_scope.specs.declared.locals.Locals.{Locals}
 use Rattle.px_scope.specs.Uses.{first_broken, variables_uses, bind_one}
 use Rattle.px_scope.proofs.expressions.bind_variables.Given as goal
 
