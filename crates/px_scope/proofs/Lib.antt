@@ -1,4 +1,6 @@
 mod DataSteps
+mod DeclarationSteps
+mod DefinitionSteps
 mod Firsts
 mod LookupSteps
 mod NameFacts
@@ -7,6 +9,8 @@ mod OneTerm
 mod OneType
 mod ParameterSteps
 mod PropertySteps
+mod ReplicaSteps
 mod StateSteps
+mod TermSteps
 mod TypeNames
 mod TypeSteps

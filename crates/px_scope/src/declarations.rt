@@ -1,8 +1,8 @@
 //! Definitions, claims, lemmas and replicas.
-ghost use Rattle.std.specs.Prelude.{◌≡◌, ◌<◌, ◌^◌, None, length, IfOk, IfErr, OnOk};
+ghost use Rattle.std.specs.Prelude.{◌≡◌, ◌<◌, ◌≤◌, ◌^◌, None, length, IfOk, IfErr, OnOk};
 ghost use Rattle.std.specs.List.{flat_map};
 ghost use Rattle.px_parser.specs.declared.surface.Item.TheVariants as items;
-ghost use Rattle.px_scope.specs.Declaring.{after, with_lower, function_count, claimed_of as claimed_props};
+ghost use Rattle.px_scope.specs.Declaring.{after, with_lower, functions_in, function_count, claimed_of as claimed_props};
 ghost use Rattle.px_scope.specs.ItemUses.{head_uses, equation_uses, definition_uses, claim_uses, lemma_uses, replica_uses};
 ghost use Rattle.px_scope.specs.Programs.{IsEquation, AreEquations, IsDefinition, IsClaim, IsLemma, IsReplica};
 ghost use Rattle.px_scope.specs.Rules.{new_lower_fault};
@@ -121,11 +121,20 @@ fn count_functions(params: &[SParam]) -> usize
 {
     let mut count: usize = 0;
     for param in params {
-        if let SParamKind::Function(_) = &param.kind {
-            count += 1;
-        }
+        count += functions_of(&param.kind);
     }
     count
+}
+
+/// 1 for a function, and 0 for a value. It takes no memory.
+fn functions_of(kind: &SParamKind) -> usize
+    ensures is { result ≡ functions_in kind.now }
+    ensures most { result ≤ 1 }
+{
+    match kind {
+        SParamKind::Function(_) => 1,
+        SParamKind::Value(_) => 0,
+    }
 }
 
 /// The written claim that one is; its properties are claimed then. It takes memory.

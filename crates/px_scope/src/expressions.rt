@@ -1,19 +1,20 @@
 //! Expressions.
-ghost use Rattle.std.specs.Prelude.{◌≡◌, ◌∷◌, drop, map, OnOk};
+ghost use Rattle.std.specs.Prelude.{◌≡◌, drop, map, OnOk};
 ghost use Rattle.std.specs.List.{flat_map};
 ghost use Rattle.px_parser.specs.declared.surface.Name.{Name as AnyName};
 ghost use Rattle.px_parser.specs.declared.surface.SExpr.{SExpr as Expression};
 ghost use Rattle.px_parser.specs.declared.surface.SArm.{SArm as AnyArm};
 ghost use Rattle.px_scope.specs.Uses.{Data, From, expr_uses, arm_uses, variables_uses, bind};
 ghost use Rattle.px_scope.specs.Numbers.{IsTerm, AreTerms, IsArm, AreArms};
-ghost use Rattle.px_scope.specs.Standing.{nothing_local};
 ghost use Rattle.px_scope.specs.Answers.{Resolves};
 
 use crate::ends::{ScopeEnd, ScopeKind};
 use crate::functions::resolve_arguments;
 use crate::globals::Globals;
 use crate::locals::Locals;
-use crate::lookups::{Variable, fault, find_called, find_constructor, find_variable, lower_in_from};
+use crate::lookups::{
+    Variable, fault, find_called, find_constructor, find_variable, lower_in_from,
+};
 use crate::types::resolve_types;
 use px_parser::{Item, Name, SArm, SExpr, SExprKind};
 use px_terms::{RawArm, RawFun, RawKind, RawTerm};
@@ -77,8 +78,14 @@ pub(crate) fn resolve_term(
                     args.as_slice(),
                     called.functions,
                 )?;
-                let args =
-                    resolve_terms(alloc, text, globals, locals, called.functions, args.as_slice())?;
+                let args = resolve_terms(
+                    alloc,
+                    text,
+                    globals,
+                    locals,
+                    called.functions,
+                    args.as_slice(),
+                )?;
                 Ok(RawTerm {
                     at: expr.at,
                     kind: RawKind::Call {
@@ -121,8 +128,8 @@ fn resolve_terms(
     ensures locals { OnOk result (locals.new ≡ locals.old) }
 {
     let mut terms = Items::new(alloc);
-    for i in skipped..exprs.len() {
-        terms.push(resolve_term(alloc, text, globals, locals, &exprs[i])?)?;
+    for expr in &exprs[skipped.min(exprs.len())..] {
+        terms.push(resolve_term(alloc, text, globals, locals, expr)?)?;
     }
     Ok(terms)
 }
@@ -173,11 +180,7 @@ fn resolve_arm(
 }
 
 /// Makes a pattern's variables local, and answers their places. It takes memory.
-fn bind_variables(
-    alloc: Global,
-    locals: &mut Locals,
-    vars: &[Name],
-) -> Result<Items<u32>, ScopeEnd>
+fn bind_variables(alloc: Global, locals: &mut Locals, vars: &[Name]) -> Result<Items<u32>, ScopeEnd>
     ensures resolves { Resolves (variables_uses locals.old vars.now) (λ places. places ≡ map (λ (v : AnyName). v.at) vars.now) result }
     ensures locals { OnOk result (locals.new ≡ bind locals.old vars.now) }
 {

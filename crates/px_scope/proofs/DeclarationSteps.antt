@@ -1,0 +1,69 @@
+-- Declarations, stage by stage.
+use Rattle.std.proofs.Common.{◌≡◌, ℕ, ◌+◌, ◌<◌, ◌≤◌, List, [], ◌∷◌, ◌++◌, map, length, take, get_or, Option, Some, None, Result, refl, sym, ap, ◌∙◌, subst, append_assoc, arith}
+use Rattle.std.specs.List.{flat_map, fold}
+use Rattle.std.specs.Result.{IsErrAnd}
+use Rattle.std.proofs.lemmas.List.{append-nil, take_more}
+use Rattle.px_terms.specs.declared.raw.RawEquation.{RawEquation}
+use Rattle.px_parser.specs.declared.surface.Name.{Name}
+use Rattle.px_parser.specs.declared.surface.SParam.{SParam}
+use Rattle.px_parser.specs.declared.surface.SEquation.{SEquation}
+use Rattle.px_parser.specs.declared.surface.Item.{Item}
+use Rattle.px_scope.specs.declared.ends.ScopeEnd.{ScopeEnd}
+use Rattle.px_scope.specs.declared.globals.Globals.{Globals}
+use Rattle.px_scope.specs.declared.locals.TypeLocals.{TypeLocals}
+use Rattle.px_scope.specs.declared.locals.Locals.{Locals}
+use Rattle.px_scope.specs.declared.parameters.Parameters.{Parameters}
+use Rattle.px_scope.specs.declared.declarations.Head.{Head}
+use Rattle.px_scope.specs.Standing.{no_parameters, nothing_local}
+use Rattle.px_scope.specs.Uses.{Use, first_broken, Data, expr_uses}
+use Rattle.px_scope.specs.Declaring.{texts, functions_in, function_count, with_type_parameter, with_parameter, type_locals, first_locals, parameter_locals}
+use Rattle.px_scope.specs.ItemUses.{type_parameters_uses, parameters_uses, head_uses, equation_uses}
+use Rattle.px_scope.specs.Programs.{IsEquation, AreEquations, none, more}
+use Rattle.px_scope.specs.Answers.{Fails, Fine, Resolves, AreBoth, IsHead}
+use Rattle.px_scope.proofs.Firsts.{fine_both, fails_front, fails_back, passed_on}
+use Rattle.px_scope.proofs.ParameterSteps.{type_locals_are}
+
+module _ (text : List Item) (G : Globals) (tparams : List Name) (params : List SParam) (nl : Locals) (nothing : nl ≡ nothing_local) where
+  types_before : nl.types ≡ no_parameters
+  types_before = ap (λ (L : Locals). L.types) nothing
+
+  -- the type parameters fail
+  pub head_fails_early : {Z : Type 0} (Is : Z → Type 0) (r : Result Z ScopeEnd) (end : ScopeEnd) → IsErrAnd r (λ e. e ≡ end) → Fails (first_broken (type_parameters_uses G nl.types tparams)) end → Resolves (head_uses text G tparams params) Is r
+  head_fails_early Is r end is fails = passed_on Is (head_uses text G tparams params) r end is (fails_front (type_parameters_uses G no_parameters tparams) (parameters_uses text G (first_locals tparams) params) end (subst (λ T. Fails (first_broken (type_parameters_uses G T tparams)) end) types_before fails))
+
+  module _ (T : TypeLocals) (fine : first_broken (type_parameters_uses G nl.types tparams) ≡ None) (added : T ≡ fold with_type_parameter nl.types tparams) where
+    types_after : T ≡ type_locals tparams
+    types_after = added ∙ ap (λ U. fold with_type_parameter U tparams) types_before ∙ type_locals_are tparams
+
+    locals_after : record nl { types = T } ≡ first_locals tparams
+    locals_after = ap (λ (L : Locals). record L { types = T }) nothing ∙ ap (λ U. record nothing_local { types = U }) types_after
+
+    fine_types : first_broken (type_parameters_uses G no_parameters tparams) ≡ None
+    fine_types = ap (λ U. first_broken (type_parameters_uses G U tparams)) (sym types_before) ∙ fine
+
+    -- the parameters fail
+    pub head_fails_late : {Z : Type 0} (Is : Z → Type 0) (r : Result Z ScopeEnd) (end : ScopeEnd) → IsErrAnd r (λ e. e ≡ end) → Fails (first_broken (parameters_uses text G (record nl { types = T }) params)) end → Resolves (head_uses text G tparams params) Is r
+    head_fails_late Is r end is fails = passed_on Is (head_uses text G tparams params) r end is (fails_back (type_parameters_uses G no_parameters tparams) (parameters_uses text G (first_locals tparams) params) end fine_types (subst (λ (L : Locals). Fails (first_broken (parameters_uses text G L params)) end) locals_after fails))
+
+    -- both are fine
+    pub head_fine : (both : Parameters) (after : Locals) → Fine (parameters_uses text G (record nl { types = T }) params) (AreBoth G T params) both → after ≡ fold with_parameter (record nl { types = T }) params → Fine (head_uses text G tparams params) (IsHead G tparams params) (record { locals = after; params = both })
+    head_fine both after (fine_params, are) is = (fine_both (type_parameters_uses G no_parameters tparams) (parameters_uses text G (first_locals tparams) params) fine_types (ap (λ (L : Locals). first_broken (parameters_uses text G L params)) (sym locals_after) ∙ fine_params), record {
+      locals = is ∙ ap (λ (L : Locals). fold with_parameter L params) locals_after;
+      are_both = subst (λ U. AreBoth G U params both) types_after are;
+    })
+
+-- one equation more
+pub equations_push : (G : Globals) (L : Locals) (es : List SEquation) (rs : List RawEquation) (e : SEquation) (r : RawEquation) → AreEquations G L es rs → IsEquation G L e r → AreEquations G L (es ++ e ∷ []) (rs ++ r ∷ [])
+equations_push G L _ _ e r none is = more is none
+equations_push G L _ _ e r (more {es = es} {rs = rs} first others) is = more first (equations_push G L es rs e r others is)
+
+functions_of_one : (xs : List SParam) (p : SParam) → function_count (xs ++ p ∷ []) ≡ function_count xs + functions_in p.kind
+functions_of_one [] p = omega arith
+functions_of_one (x ∷ xs) p = let rest = functions_of_one xs p in omega (arith, rest)
+
+-- the functions among one parameter more
+pub functions_next : (xs : List SParam) (i : ℕ) (p : SParam) (count one : ℕ) → i < length xs → p ≡ get_or xs i p → count ≡ function_count (take i xs) → one ≡ functions_in p.kind → count + one ≡ function_count (take (i + 1) xs)
+functions_next xs i p count one within at is one_is =
+    let more : take (i + 1) xs ≡ take i xs ++ p ∷ [] = take_more xs i p within ∙ ap (λ z. take i xs ++ z ∷ []) (sym at) in
+    let next : function_count (take (i + 1) xs) ≡ function_count (take i xs) + functions_in p.kind = ap function_count more ∙ functions_of_one (take i xs) p in
+    omega (arith, next)
