@@ -1,8 +1,8 @@
 -- Declarations, stage by stage.
-use Rattle.std.proofs.Common.{◌≡◌, ℕ, ◌+◌, ◌<◌, ◌≤◌, List, [], ◌∷◌, ◌++◌, map, length, take, get_or, Option, Some, None, Result, refl, sym, ap, ◌∙◌, subst, append_assoc, arith}
-use Rattle.std.specs.List.{flat_map, fold}
+use Rattle.std.proofs.Common.{◌≡◌, ℕ, ◌+◌, ◌<◌, List, [], ◌∷◌, ◌++◌, length, take, get_or, None, Result, sym, ap, ◌∙◌, subst, arith}
+use Rattle.std.specs.List.{fold}
 use Rattle.std.specs.Result.{IsErrAnd}
-use Rattle.std.proofs.lemmas.List.{append-nil, take_more}
+use Rattle.std.proofs.lemmas.List.{take_more}
 use Rattle.px_terms.specs.declared.raw.RawEquation.{RawEquation}
 use Rattle.px_parser.specs.declared.surface.Name.{Name}
 use Rattle.px_parser.specs.declared.surface.SParam.{SParam}
@@ -13,11 +13,10 @@ use Rattle.px_scope.specs.declared.globals.Globals.{Globals}
 use Rattle.px_scope.specs.declared.locals.TypeLocals.{TypeLocals}
 use Rattle.px_scope.specs.declared.locals.Locals.{Locals}
 use Rattle.px_scope.specs.declared.parameters.Parameters.{Parameters}
-use Rattle.px_scope.specs.declared.declarations.Head.{Head}
 use Rattle.px_scope.specs.Standing.{no_parameters, nothing_local}
-use Rattle.px_scope.specs.Uses.{Use, first_broken, Data, expr_uses}
-use Rattle.px_scope.specs.Declaring.{texts, functions_in, function_count, with_type_parameter, with_parameter, type_locals, first_locals, parameter_locals}
-use Rattle.px_scope.specs.ItemUses.{type_parameters_uses, parameters_uses, head_uses, equation_uses}
+use Rattle.px_scope.specs.Uses.{first_broken}
+use Rattle.px_scope.specs.Declaring.{functions_in, function_count, with_type_parameter, with_parameter, type_locals, first_locals}
+use Rattle.px_scope.specs.ItemUses.{type_parameters_uses, parameters_uses, head_uses}
 use Rattle.px_scope.specs.Programs.{IsEquation, AreEquations, none, more}
 use Rattle.px_scope.specs.Answers.{Fails, Fine, Resolves, AreBoth, IsHead}
 use Rattle.px_scope.proofs.Firsts.{fine_both, fails_front, fails_back, passed_on}
@@ -47,10 +46,13 @@ module _ (text : List Item) (G : Globals) (tparams : List Name) (params : List S
 
     -- both are fine
     pub head_fine : (both : Parameters) (after : Locals) → Fine (parameters_uses text G (record nl { types = T }) params) (AreBoth G T params) both → after ≡ fold with_parameter (record nl { types = T }) params → Fine (head_uses text G tparams params) (IsHead G tparams params) (record { locals = after; params = both })
-    head_fine both after (fine_params, are) is = (fine_both (type_parameters_uses G no_parameters tparams) (parameters_uses text G (first_locals tparams) params) fine_types (ap (λ (L : Locals). first_broken (parameters_uses text G L params)) (sym locals_after) ∙ fine_params), record {
-      locals = is ∙ ap (λ (L : Locals). fold with_parameter L params) locals_after;
-      are_both = subst (λ U. AreBoth G U params both) types_after are;
-    })
+    head_fine both after (fine_params, are) is = (
+      fine_both (type_parameters_uses G no_parameters tparams) (parameters_uses text G (first_locals tparams) params) fine_types (ap (λ (L : Locals). first_broken (parameters_uses text G L params)) (sym locals_after) ∙ fine_params),
+      record {
+        locals = is ∙ ap (λ (L : Locals). fold with_parameter L params) locals_after;
+        are_both = subst (λ U. AreBoth G U params both) types_after are;
+      },
+    )
 
 -- one equation more
 pub equations_push : (G : Globals) (L : Locals) (es : List SEquation) (rs : List RawEquation) (e : SEquation) (r : RawEquation) → AreEquations G L es rs → IsEquation G L e r → AreEquations G L (es ++ e ∷ []) (rs ++ r ∷ [])

@@ -1,12 +1,11 @@
 -- Definitions, lemmas and replicas, stage by stage: where a stage fails, and where all are fine.
-use Rattle.std.proofs.Common.{◌≡◌, ℕ, ◌+◌, List, [], ◌∷◌, ◌++◌, length, take, Option, Some, None, Result, refl, sym, ap, ◌∙◌, subst}
-use Rattle.std.specs.List.{flat_map, fold}
+use Rattle.std.proofs.Common.{◌≡◌, ℕ, List, [], ◌∷◌, ◌++◌, length, Some, None, Result, refl, sym, ap, ◌∙◌, subst}
+use Rattle.std.specs.List.{fold}
 use Rattle.std.specs.Result.{IsErrAnd}
 use Rattle.px_terms.specs.declared.types.Prop.{Prop}
 use Rattle.px_terms.specs.declared.raw.RawTy.{RawTy}
 use Rattle.px_terms.specs.declared.raw.RawProp.{RawProp}
 use Rattle.px_terms.specs.declared.raw.RawTerm.{RawTerm}
-use Rattle.px_terms.specs.declared.raw.RawDef.{RawDef}
 use Rattle.px_parser.specs.declared.surface.Name.{Name}
 use Rattle.px_parser.specs.declared.surface.SParam.{SParam}
 use Rattle.px_parser.specs.declared.surface.SParamKind.{SParamKind}
@@ -17,7 +16,6 @@ use Rattle.px_parser.specs.declared.surface.Item.TheVariants as items
 use Rattle.px_scope.specs.declared.ends.ScopeEnd.{ScopeEnd}
 use Rattle.px_scope.specs.declared.globals.Meaning.TheVariants.{Definition}
 use Rattle.px_scope.specs.declared.globals.Globals.{Globals}
-use Rattle.px_scope.specs.declared.locals.TypeLocals.{TypeLocals}
 use Rattle.px_scope.specs.declared.locals.Locals.{Locals}
 use Rattle.px_scope.specs.declared.parameters.Parameters.{Parameters}
 use Rattle.px_scope.specs.declared.declarations.Head.{Head}
@@ -109,7 +107,7 @@ module _ (text : List Item) (G : Globals) (d : SDef) (new : new_lower_fault G d.
         -- its body fails
         pub definition_body_fails : {Z : Type 0} (Is : Z → Type 0) (r : Result Z ScopeEnd) (end : ScopeEnd) → IsErrAnd r (λ e. e ≡ end) → Fails (first_broken (expr_uses text H d.body Data (record locals { own_definition = Some number }))) end → Resolves (definition_uses text G d) Is r
         definition_body_fails Is r end is h = fails Is r end is (fails_back head (result ++ (props ++ body)) end fine_head (fails_back result (props ++ body) end fine_result (fails_back props body end fine_props
-          (subst (λ (L : Locals). Fails (first_broken (expr_uses text (with_definition G d) d.body Data L)) end) locals_are (subst (λ (K : Globals). Fails (first_broken (expr_uses text K d.body Data (record locals { own_definition = Some number }))) end) globals_are h)))))
+            (subst (λ (L : Locals). Fails (first_broken (expr_uses text (with_definition G d) d.body Data L)) end) locals_are (subst (λ (K : Globals). Fails (first_broken (expr_uses text K d.body Data (record locals { own_definition = Some number }))) end) globals_are h)))))
 
         -- all is fine
         pub definition_fine : (t : RawTy) (b : RawTerm) (claimed : List Prop) (copy : List RawProp) (count : ℕ) (last : Globals) → IsType G locals.types d.result t → Fine (expr_uses text H d.body Data (record locals { own_definition = Some number })) (IsTerm H (record locals { own_definition = Some number }) d.body) b → claimed ≡ none ++ props_of qs → copy ≡ d.props → count ≡ length d.tparams → last ≡ record H { claimed = H.claimed ++ claimed ∷ [] }
@@ -118,12 +116,19 @@ module _ (text : List Item) (G : Globals) (d : SDef) (new : new_lower_fault G d.
             let same : claimed ≡ props_of d.props = claimed_are ∙ ap (λ xs. xs ++ props_of qs) none_is ∙ ap props_of qs_are in
             let end_is : last ≡ with_claimed (with_definition G d) (props_of d.props) = last_is ∙ ap (λ (K : Globals). with_claimed K claimed) globals_are ∙ ap (with_claimed (with_definition G d)) same in
             let body_fine : first_broken body ≡ None = subst (λ (L : Locals). first_broken (expr_uses text (with_definition G d) d.body Data L) ≡ None) locals_are (subst (λ (K : Globals). first_broken (expr_uses text K d.body Data (record locals { own_definition = Some number })) ≡ None) globals_are fine_body) in
-            let body_is : IsTerm (with_definition G d) (body_locals (length G.claimed) d) d.body b = subst (λ (L : Locals). IsTerm (with_definition G d) L d.body b) locals_are (subst (λ (K : Globals). IsTerm K (record locals { own_definition = Some number }) d.body b) globals_are is_body) in
-            (fine_first d.name.at (new_lower_fault G d.name.text) (head ++ (result ++ (props ++ body))) new (fine_both head (result ++ (props ++ body)) fine_head (fine_both result (props ++ body) fine_result (fine_both props body fine_props body_fine))),
-             (record {
-               funs = both.funs; params = both.values; type = t; body = b;
-               are_parameters = is_open.are_both;
-               is_result = subst (λ T. IsType G T d.result t) is_open.types_are is_type;
-               is_body = body_is;
-               is = rw (copy_is, count_is) refl;
-             }, end_is))
+            let body_is : IsTerm (with_definition G d) (body_locals (length G.claimed) d) d.body b = subst (λ (L : Locals). IsTerm (with_definition G d) L d.body b) locals_are (subst (λ (K : Globals). IsTerm K (record locals { own_definition = Some number }) d.body b) globals_are is_body) in (
+              fine_first d.name.at (new_lower_fault G d.name.text) (head ++ (result ++ (props ++ body))) new (fine_both head (result ++ (props ++ body)) fine_head (fine_both result (props ++ body) fine_result (fine_both props body fine_props body_fine))),
+              (
+                record {
+                  funs = both.funs;
+                  params = both.values;
+                  type = t;
+                  body = b;
+                  are_parameters = is_open.are_both;
+                  is_result = subst (λ T. IsType G T d.result t) is_open.types_are is_type;
+                  is_body = body_is;
+                  is = rw (copy_is, count_is) refl;
+                },
+                end_is,
+              ),
+            )

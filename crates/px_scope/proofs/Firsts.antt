@@ -1,5 +1,5 @@
 -- The first broken rule among names: of names that stand one after the other, and what an answer says of it.
-use Rattle.std.proofs.Common.{◌≡◌, ℕ, zero, suc, ◌+◌, ◌<◌, ◌≤◌, List, [], ◌∷◌, ◌++◌, length, take, drop, get_or, Option, Some, None, Result, Ok, Err, refl, sym, ap, ◌∙◌, subst, append_assoc, arith}
+use Rattle.std.proofs.Common.{◌≡◌, ℕ, ◌+◌, ◌<◌, ◌≤◌, List, [], ◌∷◌, ◌++◌, length, take, drop, get_or, Option, Some, None, Result, Ok, Err, refl, sym, ap, ◌∙◌, subst, append_assoc}
 use Rattle.std.specs.List.{flat_map, fold}
 use Rattle.std.specs.Result.{IsErrAnd}
 use Rattle.std.proofs.lemmas.List.{take_more, take_all, append-nil, take-append-drop}
@@ -9,7 +9,7 @@ use Rattle.px_scope.specs.declared.ends.ScopeKind.{ScopeKind}
 use Rattle.px_scope.specs.declared.ends.ScopeEnd.{ScopeEnd}
 use Rattle.px_scope.specs.declared.ends.ScopeEnd.TheVariants.{Fault, NoMemory}
 use Rattle.px_scope.specs.Uses.{Use, Broken, broken_or, first_broken, along}
-use Rattle.px_scope.specs.Answers.{Fails, Fine, Resolves, Finds}
+use Rattle.px_scope.specs.Answers.{Fails, Fine, Resolves}
 
 broken_stays : (at : ℕ) (fault : Option ScopeKind) (us vs : List Use) (b : Broken) → (first_broken us ≡ Some b → first_broken (us ++ vs) ≡ Some b) → broken_or at fault (first_broken us) ≡ Some b → broken_or at fault (first_broken (us ++ vs)) ≡ Some b
 broken_stays at (Some kind) us vs b later e = e

@@ -8,8 +8,10 @@ mod OneProgram
 mod OneTerm
 mod OneType
 mod ParameterSteps
+mod ProgramSteps
 mod PropertySteps
 mod ReplicaSteps
+mod SmallSteps
 mod StateSteps
 mod TermSteps
 mod TypeNames

@@ -1,19 +1,18 @@
 -- What names with a small letter stand for, step by step: as locals, and then at the top.
-use Rattle.std.proofs.Common.{◌≡◌, ℕ, Bool, true, false, List, Option, Some, None, Result, Ok, Err, refl, sym, ap, ◌∙◌, subst}
+use Rattle.std.proofs.Common.{◌≡◌, ℕ, Bool, false, List, Option, Some, None, Result, refl, sym, ap, ◌∙◌, subst}
 use Rattle.px_terms.specs.declared.types.Head.{Head}
 use Rattle.px_parser.specs.declared.surface.Item.{Item}
 use Rattle.px_scope.specs.declared.ends.ScopeKind.{ScopeKind}
 use Rattle.px_scope.specs.declared.ends.ScopeKind.TheVariants.{WrongPlace}
 use Rattle.px_scope.specs.declared.ends.ScopeEnd.{ScopeEnd}
-use Rattle.px_scope.specs.declared.ends.ScopeEnd.TheVariants.{Fault, NoMemory}
+use Rattle.px_scope.specs.declared.ends.ScopeEnd.TheVariants.{Fault}
 use Rattle.px_scope.specs.declared.globals.Meaning.{Meaning}
 use Rattle.px_scope.specs.declared.globals.Meaning.TheVariants.{Wle, Weq, Definition, Lemma, Replica}
 use Rattle.px_scope.specs.declared.globals.Globals.{Globals}
 use Rattle.px_scope.specs.declared.locals.Local.{Local}
-use Rattle.px_scope.specs.declared.locals.Local.TheVariants.{Function, Value, Pattern}
 use Rattle.px_scope.specs.declared.locals.Locals.{Locals}
 use Rattle.px_scope.specs.Standing.{meaning_of, local_of, head_of, head_at, head_of_local, head_of_meaning}
-use Rattle.px_scope.specs.Rules.{absent, is_own, value_fault_at, value_fault, function_fault_at, function_fault, local_function_fault, global_function_fault}
+use Rattle.px_scope.specs.Rules.{absent, value_fault_at, value_fault, function_fault_at, function_fault, local_function_fault, global_function_fault}
 use Rattle.px_scope.specs.Later.{declares_lower}
 use Rattle.px_scope.specs.Uses.{broken_or}
 use Rattle.px_scope.specs.Answers.{Fails, Finds}

@@ -1,5 +1,5 @@
 -- Replicas and lemmas, stage by stage: where a stage fails, and where all are fine.
-use Rattle.std.proofs.Common.{◌≡◌, ℕ, ◌+◌, ◌-◌, ◌<◌, List, [], ◌∷◌, ◌++◌, length, take, drop, get_or, Option, Some, None, Result, refl, sym, ap, ◌∙◌, subst, arith}
+use Rattle.std.proofs.Common.{◌≡◌, ℕ, ◌+◌, ◌-◌, ◌<◌, List, [], ◌∷◌, ◌++◌, length, take, drop, get_or, None, Result, refl, sym, ap, ◌∙◌, subst, arith}
 use Rattle.std.specs.List.{flat_map}
 use Rattle.std.specs.Result.{IsErrAnd}
 use Rattle.std.proofs.lemmas.List.{take_more, take_all, append-nil, take-append-drop}
@@ -8,7 +8,6 @@ use Rattle.px_terms.specs.declared.raw.RawTy.{RawTy}
 use Rattle.px_terms.specs.declared.raw.RawFun.{RawFun}
 use Rattle.px_terms.specs.declared.raw.RawTerm.{RawTerm}
 use Rattle.px_terms.specs.declared.raw.RawEquation.{RawEquation}
-use Rattle.px_terms.specs.declared.raw.RawReplica.{RawReplica}
 use Rattle.px_parser.specs.declared.surface.Name.{Name}
 use Rattle.px_parser.specs.declared.surface.SParam.{SParam}
 use Rattle.px_parser.specs.declared.surface.SFun.{SFun}
@@ -84,22 +83,29 @@ module _ (text : List Item) (G : Globals) (s : SReplica) (new : new_lower_fault 
           -- its merge's functions fail
           pub replica_funs_fail : {Z : Type 0} (Is : Z → Type 0) (r : Result Z ScopeEnd) (end : ScopeEnd) → IsErrAnd r (λ e. e ≡ end) → Fails (first_broken (flat_map (function_uses text K nl) fs)) end → Resolves (replica_uses text G s) Is r
           replica_funs_fail Is r end is h = fails Is r end is (fails_back state (from ++ (merge ++ funs)) end fine_state (fails_back from (merge ++ funs) end fine_from (fails_back merge funs end fine_merge
-            (subst (λ xs. Fails (first_broken (flat_map (function_uses text H nothing_local) xs)) end) fs_are (here (λ J L. Fails (first_broken (flat_map (function_uses text J L) fs)) end) h)))))
+              (subst (λ xs. Fails (first_broken (flat_map (function_uses text H nothing_local) xs)) end) fs_are (here (λ J L. Fails (first_broken (flat_map (function_uses text J L) fs)) end) h)))))
 
           -- all is fine
           pub replica_fine : (t : RawTy) (f : RawTerm) (m : RawFun) (gs : List RawFun) → IsType G nl.types s.state t → IsTerm K nl s.from f → IsFunction K nl s.merge m → Fine (flat_map (function_uses text K nl) fs) (AreFunctions K nl fs) gs
               → Fine (replica_uses text G s) (λ raw. IsReplica G s raw × (K ≡ after G (items.Replica s))) (record { at = s.name.at; state = t; from = f; merge = m; funs = gs })
           replica_fine t f m gs is_state is_from is_merge (fine_funs_of, are_funs) =
-              let fine_funs : first_broken funs ≡ None = subst (λ xs. first_broken (flat_map (function_uses text H nothing_local) xs) ≡ None) fs_are (here (λ J L. first_broken (flat_map (function_uses text J L) fs) ≡ None) fine_funs_of) in
-              (fine_first s.name.at (new_lower_fault G s.name.text) (state ++ (from ++ (merge ++ funs))) new (fine_both state (from ++ (merge ++ funs)) fine_state (fine_both from (merge ++ funs) fine_from (fine_both merge funs fine_merge fine_funs))),
-               (record {
-                 state = t; from = f; merge = m; funs = gs;
-                 is_state = subst (λ (L : Locals). IsType G L.types s.state t) nothing is_state;
-                 is_from = here (λ J L. IsTerm J L s.from f) is_from;
-                 is_merge = here (λ J L. IsFunction J L s.merge m) is_merge;
-                 are_functions = subst (λ xs. AreFunctions H nothing_local xs gs) fs_are (here (λ J L. AreFunctions J L fs gs) are_funs);
-                 is = refl;
-               }, declares))
+              let fine_funs : first_broken funs ≡ None = subst (λ xs. first_broken (flat_map (function_uses text H nothing_local) xs) ≡ None) fs_are (here (λ J L. first_broken (flat_map (function_uses text J L) fs) ≡ None) fine_funs_of) in (
+                fine_first s.name.at (new_lower_fault G s.name.text) (state ++ (from ++ (merge ++ funs))) new (fine_both state (from ++ (merge ++ funs)) fine_state (fine_both from (merge ++ funs) fine_from (fine_both merge funs fine_merge fine_funs))),
+                (
+                  record {
+                    state = t;
+                    from = f;
+                    merge = m;
+                    funs = gs;
+                    is_state = subst (λ (L : Locals). IsType G L.types s.state t) nothing is_state;
+                    is_from = here (λ J L. IsTerm J L s.from f) is_from;
+                    is_merge = here (λ J L. IsFunction J L s.merge m) is_merge;
+                    are_functions = subst (λ xs. AreFunctions H nothing_local xs gs) fs_are (here (λ J L. AreFunctions J L fs gs) are_funs);
+                    is = refl;
+                  },
+                  declares,
+                ),
+              )
 
 module _ (text : List Item) (G : Globals) (s : SLemma) (new : new_lower_fault G s.name.text ≡ None) where
   abbrev LH : Globals
@@ -159,11 +165,18 @@ module _ (text : List Item) (G : Globals) (s : SLemma) (new : new_lower_fault G 
       lemma_fine x at premises conclusion count are (fine_of, is) count_is =
           let fine_conclusion : first_broken (equation_uses text LH L0 x) ≡ None = there (λ J L. first_broken (equation_uses text J L x) ≡ None) fine_of in
           let fine_equations : first_broken equations ≡ None = ap first_broken (names_of x at) ∙ fine_both (flat_map (equation_uses text LH L0) (take last es)) (equation_uses text LH L0 x) fine_premises fine_conclusion in
-          let all : AreEquations LH L0 (take last es ++ x ∷ []) (premises ++ conclusion ∷ []) = equations_push LH L0 (take last es) premises x conclusion (there (λ J L. AreEquations J L (take last es) premises) are) (there (λ J L. IsEquation J L x conclusion) is) in
-          (fine_first s.name.at (new_lower_fault G s.name.text) (lemma_head ++ equations) new (fine_both lemma_head equations fine_lemma_head fine_equations),
-           (record {
-             funs = both.funs; vars = both.values; premises = premises; conclusion = conclusion;
-             are_parameters = is_open.are_both;
-             are_equations = subst (λ xs. AreEquations LH L0 xs (premises ++ conclusion ∷ [])) (sym (all_equations x at)) all;
-             is = rw count_is refl;
-           }, declares))
+          let all : AreEquations LH L0 (take last es ++ x ∷ []) (premises ++ conclusion ∷ []) = equations_push LH L0 (take last es) premises x conclusion (there (λ J L. AreEquations J L (take last es) premises) are) (there (λ J L. IsEquation J L x conclusion) is) in (
+            fine_first s.name.at (new_lower_fault G s.name.text) (lemma_head ++ equations) new (fine_both lemma_head equations fine_lemma_head fine_equations),
+            (
+              record {
+                funs = both.funs;
+                vars = both.values;
+                premises = premises;
+                conclusion = conclusion;
+                are_parameters = is_open.are_both;
+                are_equations = subst (λ xs. AreEquations LH L0 xs (premises ++ conclusion ∷ [])) (sym (all_equations x at)) all;
+                is = rw count_is refl;
+              },
+              declares,
+            ),
+          )

@@ -1,5 +1,5 @@
 -- The names in a type, and what its parts are.
-use Rattle.std.proofs.Common.{◌≡◌, ℕ, List, [], ◌∷◌, ◌++◌, map, Option, Some, None, Result, refl, sym, ap, ◌∙◌}
+use Rattle.std.proofs.Common.{◌≡◌, ℕ, List, [], ◌∷◌, ◌++◌, map, Option, Some, None, Result, refl, ap, ◌∙◌}
 use Rattle.std.specs.Result.{IsErrAnd}
 use Rattle.std.specs.List.{flat_map}
 use Rattle.px_parser.specs.declared.surface.SType.{SType, out-SType}
@@ -12,7 +12,7 @@ use Rattle.px_terms.specs.declared.raw.RawTyKind.{RawTyKind}
 use Rattle.px_scope.specs.declared.ends.ScopeEnd.{ScopeEnd}
 use Rattle.px_scope.specs.Standing.{type_of}
 use Rattle.px_scope.specs.Rules.{lone_name, type_fault}
-use Rattle.px_scope.specs.Uses.{Use, use_of, first_broken, broken_or, TypeUses, type_uses_step, type_uses, types_uses}
+use Rattle.px_scope.specs.Uses.{use_of, first_broken, broken_or, TypeUses, type_uses_step, type_uses, types_uses}
 use Rattle.px_scope.specs.Numbers.{raw_type, IsType, written, AreTypes, none, more}
 use Rattle.px_scope.specs.Answers.{Fails, Fine, Resolves}
 use Rattle.px_scope.proofs.Firsts.{fine_first, fails_first, fails_later, passed_on}

@@ -1,8 +1,6 @@
 -- What the functions of this crate answer.
-use Rattle.std.specs.Prelude.{◌≡◌, ◌⊎◌, ℕ, ◌<◌, ◌^◌, List, [], length, All, Option, Some, None, Result, Ok, Err}
+use Rattle.std.specs.Prelude.{◌≡◌, ◌⊎◌, ℕ, List, Option, Some, None, Result, Ok, Err}
 use Rattle.px_terms.specs.declared.raw.RawProgram.{RawProgram}
-use Rattle.px_parser.specs.declared.surface.Item.{Item}
-use Rattle.px_parser.specs.declared.surface.Item.TheVariants as items
 use Rattle.px_parser.specs.declared.surface.Surface.{Surface}
 use Rattle.px_scope.specs.declared.ends.ScopeKind.{ScopeKind}
 use Rattle.px_scope.specs.declared.ends.ScopeEnd.{ScopeEnd}
@@ -22,7 +20,7 @@ use Rattle.px_parser.specs.declared.surface.SParam.{SParam}
 use Rattle.px_scope.specs.Standing.{meaning_of, local_of, head_of, function_places}
 use Rattle.px_scope.specs.Uses.{Use, Broken, first_broken, broken_or}
 use Rattle.px_scope.specs.Declaring.{type_locals, parameter_locals}
-use Rattle.px_scope.specs.Programs.{AreParameters, IsNumbering, IsFault}
+use Rattle.px_scope.specs.Programs.{AreParameters, IsFault}
 
 -- the end is this fault, or want of memory
 abbrev pub Fails : Option Broken → ScopeEnd → Type 0

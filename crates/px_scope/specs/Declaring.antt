@@ -6,19 +6,14 @@ use Rattle.px_terms.specs.declared.types.Prop.{Prop}
 use Rattle.px_terms.specs.declared.raw.RawProp.{RawProp}
 use Rattle.px_parser.specs.declared.surface.Name.{Name}
 use Rattle.px_parser.specs.declared.surface.SCon.{SCon}
-use Rattle.px_parser.specs.declared.surface.SData.{SData}
 use Rattle.px_parser.specs.declared.surface.SParam.{SParam}
 use Rattle.px_parser.specs.declared.surface.SParamKind.{SParamKind}
 use Rattle.px_parser.specs.declared.surface.SParamKind.TheVariants as param_kinds
 use Rattle.px_parser.specs.declared.surface.SDef.{SDef}
-use Rattle.px_parser.specs.declared.surface.SClaim.{SClaim}
-use Rattle.px_parser.specs.declared.surface.SLemma.{SLemma}
-use Rattle.px_parser.specs.declared.surface.SReplica.{SReplica}
 use Rattle.px_parser.specs.declared.surface.Item.{Item}
 use Rattle.px_parser.specs.declared.surface.Item.TheVariants as items
-use Rattle.px_scope.specs.declared.globals.Constructor.{Constructor}
 use Rattle.px_scope.specs.declared.globals.Meaning.{Meaning}
-use Rattle.px_scope.specs.declared.globals.Meaning.TheVariants.{Wle, Weq, Definition, Lemma, Replica}
+use Rattle.px_scope.specs.declared.globals.Meaning.TheVariants.{Definition, Lemma, Replica}
 use Rattle.px_scope.specs.declared.globals.Globals.{Globals}
 use Rattle.px_scope.specs.declared.locals.TypeLocals.{TypeLocals}
 use Rattle.px_scope.specs.declared.locals.Locals.{Locals}

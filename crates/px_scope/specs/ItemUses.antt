@@ -1,5 +1,5 @@
 -- The names that stand in declarations, in the order of the text, each with the first rule that it breaks at its place.
-use Rattle.std.specs.Prelude.{ℕ, ◌+◌, List, [], ◌∷◌, ◌++◌, map, length, Option, Some, None}
+use Rattle.std.specs.Prelude.{ℕ, ◌+◌, List, [], ◌∷◌, ◌++◌, length, Option, Some}
 use Rattle.std.specs.List.{flat_map}
 use Rattle.px_terms.specs.declared.types.Prop.{Prop}
 use Rattle.px_parser.specs.declared.surface.Name.{Name}

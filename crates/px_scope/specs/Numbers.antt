@@ -1,5 +1,5 @@
 -- Types, functions and expressions with numbers for names.
-use Rattle.std.specs.Prelude.{◌≡◌, ℕ, ◌+◌, List, [], ◌∷◌, ◌++◌, map, take, drop, Option, Some, None}
+use Rattle.std.specs.Prelude.{◌≡◌, ℕ, List, [], ◌∷◌, map, take, drop, Some, None}
 use Rattle.px_terms.specs.declared.types.Head.{Head}
 use Rattle.px_terms.specs.declared.raw.RawTyKind.{RawTyKind}
 use Rattle.px_terms.specs.declared.raw.RawTy.{RawTy}

@@ -1,9 +1,7 @@
 -- Declarations with numbers for names, and the numbered program of a text.
-use Rattle.std.specs.Prelude.{◌≡◌, ℕ, ◌+◌, List, [], ◌∷◌, ◌++◌, map, length, codes, Option, Some, None}
-use Rattle.px_terms.specs.declared.raw.Decl.{Decl}
+use Rattle.std.specs.Prelude.{◌≡◌, ℕ, List, [], ◌∷◌, ◌++◌, map, length, codes, Some, None}
 use Rattle.px_terms.specs.declared.raw.Decl.TheVariants as decl
 use Rattle.px_terms.specs.declared.raw.RawTy.{RawTy}
-use Rattle.px_terms.specs.declared.raw.RawProp.{RawProp}
 use Rattle.px_terms.specs.declared.raw.RawFun.{RawFun}
 use Rattle.px_terms.specs.declared.raw.RawTerm.{RawTerm}
 use Rattle.px_terms.specs.declared.raw.RawCon.{RawCon}
@@ -15,8 +13,6 @@ use Rattle.px_terms.specs.declared.raw.RawEquation.{RawEquation}
 use Rattle.px_terms.specs.declared.raw.RawLemma.{RawLemma}
 use Rattle.px_terms.specs.declared.raw.RawReplica.{RawReplica}
 use Rattle.px_terms.specs.declared.raw.RawProgram.{RawProgram}
-use Rattle.px_terms.specs.declared.program.Names.{Names}
-use Rattle.px_parser.specs.declared.surface.Name.{Name}
 use Rattle.px_parser.specs.declared.surface.SType.{SType}
 use Rattle.px_parser.specs.declared.surface.SCon.{SCon}
 use Rattle.px_parser.specs.declared.surface.SData.{SData}

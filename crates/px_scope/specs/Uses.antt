@@ -1,11 +1,11 @@
 -- The names that stand in a tree, in the order of the text, each with the first rule that it breaks at its place.
-use Rattle.std.specs.Prelude.{ℕ, ◌+◌, Bool, true, false, List, [], ◌∷◌, ◌++◌, map, take, drop, length, Option, Some, None}
+use Rattle.std.specs.Prelude.{ℕ, false, List, [], ◌∷◌, ◌++◌, map, take, drop, Option, Some, None}
 use Rattle.std.specs.List.{flat_map}
-use Rattle.std.specs.Option.{is_some, option_map}
+use Rattle.std.specs.Option.{is_some}
 use Rattle.px_terms.specs.declared.types.Prop.{Prop}
 use Rattle.px_terms.specs.declared.raw.RawProp.{RawProp}
 use Rattle.px_parser.specs.declared.surface.Name.{Name}
-use Rattle.px_parser.specs.declared.surface.SType.{SType, out-SType}
+use Rattle.px_parser.specs.declared.surface.SType.{SType}
 use Rattle.px_parser.specs.declared.surface.SType.TheOpen.{SType-F}
 use Rattle.px_parser.specs.declared.surface.SType.TheFolds.{fold-SType}
 use Rattle.px_parser.specs.declared.surface.SExpr.{SExpr}
@@ -20,7 +20,7 @@ use Rattle.px_scope.specs.declared.globals.Globals.{Globals}
 use Rattle.px_scope.specs.declared.locals.TypeLocals.{TypeLocals}
 use Rattle.px_scope.specs.declared.locals.Locals.{Locals}
 use Rattle.px_scope.specs.Standing.{function_places}
-use Rattle.px_scope.specs.Rules.{lone_name, type_fault, new_value_fault, constructor_fault, value_fault, function_fault, constructor_argument_fault, from_fault, property_fault}
+use Rattle.px_scope.specs.Rules.{type_fault, new_value_fault, constructor_fault, value_fault, function_fault, constructor_argument_fault, from_fault, property_fault}
 
 -- A name at its place, and the first rule that it breaks there.
 pub record Use : Type 0 where

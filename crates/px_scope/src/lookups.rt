@@ -223,11 +223,7 @@ pub(crate) fn lower_in_from(text: &[Item], globals: &Globals, name: &Name) -> Sc
 }
 
 /// The number of the definition of which properties are claimed. It takes no memory.
-pub(crate) fn find_claimed(
-    text: &[Item],
-    globals: &Globals,
-    name: &Name,
-) -> Result<u32, ScopeEnd>
+pub(crate) fn find_claimed(text: &[Item], globals: &Globals, name: &Name) -> Result<u32, ScopeEnd>
     ensures { Finds name.now.at (claim_fault text.now globals.now name.now.text) (IsClaimed globals.now name.now.text) result }
 {
     match globals.meaning(name.text.as_str()) {
@@ -241,11 +237,7 @@ pub(crate) fn find_claimed(
 }
 
 /// The function that merges, by its name. It takes no memory.
-pub(crate) fn find_merge(
-    text: &[Item],
-    globals: &Globals,
-    name: &Name,
-) -> Result<Head, ScopeEnd>
+pub(crate) fn find_merge(text: &[Item], globals: &Globals, name: &Name) -> Result<Head, ScopeEnd>
     ensures { Finds name.now.at (merge_fault text.now globals.now name.now.text) (λ head. head_of globals.now nothing_local name.now.text ≡ Some head) result }
 {
     match globals.meaning(name.text.as_str()) {

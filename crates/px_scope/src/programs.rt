@@ -1,8 +1,11 @@
 //! Programs.
-ghost use Rattle.std.specs.Prelude.{◌≡◌, IfOk, IfErr, Ok, Err};
+ghost use Rattle.std.specs.Prelude.{◌≡◌, ◌≤◌, IfOk, IfErr, Ok, Err};
 ghost use Rattle.px_terms.specs.declared.raw.RawProgram.{RawProgram as AnyProgram};
 ghost use Rattle.px_scope.specs.declared.ends.ScopeEnd.TheVariants as ends;
+ghost use Rattle.px_terms.specs.declared.limits.TheConstants.{PROGRAM_BYTES};
 ghost use Rattle.px_parser.specs.declared.surface.Item.TheVariants as items;
+ghost use Rattle.px_parser.specs.Sizes.{surface_size};
+ghost use Rattle.px_parser.specs.Filled.{IsFilled};
 ghost use Rattle.px_scope.specs.Standing.{built_in};
 ghost use Rattle.px_scope.specs.Uses.{Broken};
 ghost use Rattle.px_scope.specs.Declaring.{after};
@@ -15,7 +18,7 @@ use crate::data::resolve_data;
 use crate::declarations::{resolve_claim, resolve_definition, resolve_lemma, resolve_replica};
 use crate::ends::ScopeEnd;
 use crate::globals::Globals;
-use px_parser::{Item, SCon, SData, Surface};
+use px_parser::{Item, SClaim, SCon, SData, SDef, SLemma, SReplica, Surface};
 use px_terms::{Decl, Names, RawCon, RawData, RawProgram, Text};
 use sqlite_items::Items;
 use std::alloc::Global;
@@ -24,7 +27,8 @@ use std::alloc::Global;
 /// rule of scope: the first by place, with the first rule that it breaks. It takes memory; its calls nest as deep as the
 /// types and expressions of the surface, and its time is linear in it.
 pub fn resolve(alloc: Global, surface: &Surface) -> Result<RawProgram, ScopeEnd>
-    requires { IsSmall surface.now.items }
+    requires small { surface_size surface.now ≤ PROGRAM_BYTES }
+    requires filled { IsFilled surface.now }
     ensures ok { IfOk result (IsNumbering surface.now) }
     ensures fault { IfErr result (IsEnd surface.now) }
 
@@ -142,40 +146,10 @@ fn resolve_item(
 {
     match item {
         Item::Datatype(datatype) => add_datatype(alloc, text, globals, program, datatype),
-        Item::Definition(definition) => {
-            let raw = resolve_definition(alloc, text, globals, definition)?;
-            let number = program.defs.len() as u32;
-            program.order.push(Decl::Definition(number))?;
-            program.defs.push(raw)?;
-            let name = copy_text(alloc, definition.name.text.as_str())?;
-            program.names.defs.push(name)?;
-            Ok(())
-        }
-        Item::Claim(claim) => {
-            let raw = resolve_claim(alloc, text, globals, claim)?;
-            let number = program.claims.len() as u32;
-            program.order.push(Decl::Claim(number))?;
-            program.claims.push(raw)?;
-            Ok(())
-        }
-        Item::Lemma(lemma) => {
-            let raw = resolve_lemma(alloc, text, globals, lemma)?;
-            let number = program.lemmas.len() as u32;
-            program.order.push(Decl::Lemma(number))?;
-            program.lemmas.push(raw)?;
-            let name = copy_text(alloc, lemma.name.text.as_str())?;
-            program.names.lemmas.push(name)?;
-            Ok(())
-        }
-        Item::Replica(replica) => {
-            let raw = resolve_replica(alloc, text, globals, replica)?;
-            let number = program.replicas.len() as u32;
-            program.order.push(Decl::Replica(number))?;
-            program.replicas.push(raw)?;
-            let name = copy_text(alloc, replica.name.text.as_str())?;
-            program.names.replicas.push(name)?;
-            Ok(())
-        }
+        Item::Definition(definition) => add_definition(alloc, text, globals, program, definition),
+        Item::Claim(claim) => add_claim(alloc, text, globals, program, claim),
+        Item::Lemma(lemma) => add_lemma(alloc, text, globals, program, lemma),
+        Item::Replica(replica) => add_replica(alloc, text, globals, program, replica),
     }
 }
 
@@ -199,5 +173,87 @@ fn add_datatype(
     program.names.datatypes.push(name)?;
     let names = copy_names(alloc, datatype.cons.as_slice())?;
     program.names.cons.push(names)?;
+    Ok(())
+}
+
+/// Adds a definition to the program, and to what is declared. It takes memory.
+fn add_definition(
+    alloc: Global,
+    text: &[Item],
+    globals: &mut Globals,
+    program: &mut RawProgram,
+    definition: &SDef,
+) -> Result<(), ScopeEnd>
+    requires small { IsSmallItem (items.Definition definition.now) }
+    requires room { HasRoom globals.old program.old }
+    ensures { Resolves (item_uses text.now globals.old (items.Definition definition.now)) (λ _. IsNext globals.old program.old (items.Definition definition.now) program.new × (globals.new ≡ after globals.old (items.Definition definition.now))) result }
+{
+    let raw = resolve_definition(alloc, text, globals, definition)?;
+    let number = program.defs.len() as u32;
+    program.order.push(Decl::Definition(number))?;
+    program.defs.push(raw)?;
+    let name = copy_text(alloc, definition.name.text.as_str())?;
+    program.names.defs.push(name)?;
+    Ok(())
+}
+
+/// Adds a claim to the program, and to what is declared. It takes memory.
+fn add_claim(
+    alloc: Global,
+    text: &[Item],
+    globals: &mut Globals,
+    program: &mut RawProgram,
+    claim: &SClaim,
+) -> Result<(), ScopeEnd>
+    requires small { IsSmallItem (items.Claim claim.now) }
+    requires room { HasRoom globals.old program.old }
+    ensures { Resolves (item_uses text.now globals.old (items.Claim claim.now)) (λ _. IsNext globals.old program.old (items.Claim claim.now) program.new × (globals.new ≡ after globals.old (items.Claim claim.now))) result }
+{
+    let raw = resolve_claim(alloc, text, globals, claim)?;
+    let number = program.claims.len() as u32;
+    program.order.push(Decl::Claim(number))?;
+    program.claims.push(raw)?;
+    Ok(())
+}
+
+/// Adds a lemma to the program, and to what is declared. It takes memory.
+fn add_lemma(
+    alloc: Global,
+    text: &[Item],
+    globals: &mut Globals,
+    program: &mut RawProgram,
+    lemma: &SLemma,
+) -> Result<(), ScopeEnd>
+    requires small { IsSmallItem (items.Lemma lemma.now) }
+    requires room { HasRoom globals.old program.old }
+    ensures { Resolves (item_uses text.now globals.old (items.Lemma lemma.now)) (λ _. IsNext globals.old program.old (items.Lemma lemma.now) program.new × (globals.new ≡ after globals.old (items.Lemma lemma.now))) result }
+{
+    let raw = resolve_lemma(alloc, text, globals, lemma)?;
+    let number = program.lemmas.len() as u32;
+    program.order.push(Decl::Lemma(number))?;
+    program.lemmas.push(raw)?;
+    let name = copy_text(alloc, lemma.name.text.as_str())?;
+    program.names.lemmas.push(name)?;
+    Ok(())
+}
+
+/// Adds a replica to the program, and to what is declared. It takes memory.
+fn add_replica(
+    alloc: Global,
+    text: &[Item],
+    globals: &mut Globals,
+    program: &mut RawProgram,
+    replica: &SReplica,
+) -> Result<(), ScopeEnd>
+    requires small { IsSmallItem (items.Replica replica.now) }
+    requires room { HasRoom globals.old program.old }
+    ensures { Resolves (item_uses text.now globals.old (items.Replica replica.now)) (λ _. IsNext globals.old program.old (items.Replica replica.now) program.new × (globals.new ≡ after globals.old (items.Replica replica.now))) result }
+{
+    let raw = resolve_replica(alloc, text, globals, replica)?;
+    let number = program.replicas.len() as u32;
+    program.order.push(Decl::Replica(number))?;
+    program.replicas.push(raw)?;
+    let name = copy_text(alloc, replica.name.text.as_str())?;
+    program.names.replicas.push(name)?;
     Ok(())
 }

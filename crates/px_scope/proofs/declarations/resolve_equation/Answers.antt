@@ -1,4 +1,4 @@
-use Rattle.std.proofs.Common.{sym, subst, ap, ◌∙◌, None, refl}
+use Rattle.std.proofs.Common.{subst, refl}
 use Rattle.px_scope.specs.declared.locals.Locals.{Locals}
 use Rattle.px_scope.specs.Uses.{Data, expr_uses, first_broken}
 use Rattle.px_scope.specs.ItemUses.{equation_uses}
@@ -16,7 +16,7 @@ pub returns-in_err-right-clause-resolves : goal.returns-in_err-right-clause-reso
 returns-in_err-right-clause-resolves c =
     passed_on (IsEquation c.args.globals.now c.args.locals.now c.args.equation.now) (equation_uses c.args.text.now c.args.globals.now c.args.locals.now c.args.equation.now) c.from_residual-in_err-right.result c.in_err-right.field-0.0 c.from_residual-in_err-right.ensures.1
     (fails_back (expr_uses c.args.text.now c.args.globals.now c.args.equation.now.left Data c.args.locals.now) (expr_uses c.args.text.now c.args.globals.now c.args.equation.now.right Data c.args.locals.now) c.in_err-right.field-0.0 c.in_ok-left.ensures.resolves.0
-      (subst (λ (L : Locals). Fails (first_broken (expr_uses c.args.text.now c.args.globals.now c.args.equation.now.right Data L)) c.in_err-right.field-0.0) c.in_ok-left.ensures.locals c.in_err-right.ensures.resolves))
+    (subst (λ (L : Locals). Fails (first_broken (expr_uses c.args.text.now c.args.globals.now c.args.equation.now.right Data L)) c.in_err-right.field-0.0) c.in_ok-left.ensures.locals c.in_err-right.ensures.resolves))
 
 pub returns-clause-resolves : goal.returns-clause-resolves
 returns-clause-resolves c =

@@ -1,4 +1,4 @@
-use Rattle.std.proofs.Common.{◌≡◌, [], None, refl, sym, subst, ◌∙◌}
+use Rattle.std.proofs.Common.{[], refl, sym, subst, ◌∙◌}
 use Rattle.px_scope.specs.declared.locals.Locals.{Locals}
 use Rattle.px_scope.specs.Uses.{first_broken}
 use Rattle.px_scope.specs.ItemUses.{equation_uses}
@@ -19,7 +19,7 @@ returns-in_err-resolve_equation-clause-resolves c =
 pub loop-equation-preserved : goal.loop-equation-preserved
 loop-equation-preserved c = record {
   resolved = loop_next (equation_uses c.args.text.now c.args.globals.now c.args.locals.now) (IsEquation c.args.globals.now c.args.locals.now) (AreEquations c.args.globals.now c.args.locals.now) (equations_push c.args.globals.now c.args.locals.now) c.args.equations.now c.loop-equation.equation-index c.equation-item.result c.loop-equation.resolved c.push.new.self c.in_ok-resolve_equation.field-0 c.loop-equation-test.true c.equation-item.is c.loop-equation.invariant.resolved
-    (subst (λ (L : Locals). Fine (equation_uses c.args.text.now c.args.globals.now L c.equation-item.result) (IsEquation c.args.globals.now L c.equation-item.result) c.in_ok-resolve_equation.field-0) c.loop-equation.invariant.locals c.in_ok-resolve_equation.ensures.resolves)
-    c.in_ok-push.ensures.ok;
+      (subst (λ (L : Locals). Fine (equation_uses c.args.text.now c.args.globals.now L c.equation-item.result) (IsEquation c.args.globals.now L c.equation-item.result) c.in_ok-resolve_equation.field-0) c.loop-equation.invariant.locals c.in_ok-resolve_equation.ensures.resolves)
+      c.in_ok-push.ensures.ok;
   locals = c.in_ok-resolve_equation.ensures.locals ∙ c.loop-equation.invariant.locals;
 }

@@ -18,6 +18,6 @@ pub returns-in-None-meaning : goal.returns-in-None-meaning
 returns-in-None-meaning c =
     function_fails c.args.text.now c.args.globals.now c.args.locals.now c.args.name.now.text c.args.name.now.at c.args.called c.absent_kind-kind.result c.fault.result c.fault.ensures
     (no_function c.args.text.now c.args.globals.now c.args.locals.now c.args.name.now.text c.args.name.now.at c.args.called
-      (found_of (local_of c.args.locals.now) c.as_str.result.now c.args.name.now.text c.find.result None c.as_str.ensures c.find.ensures c.in-None.is)
-      (found_of (meaning_of c.args.globals.now) c.as_str-in-None.result.now c.args.name.now.text c.meaning.result None c.as_str-in-None.ensures c.meaning.ensures c.in-None-meaning.is)
+    (found_of (local_of c.args.locals.now) c.as_str.result.now c.args.name.now.text c.find.result None c.as_str.ensures c.find.ensures c.in-None.is)
+    (found_of (meaning_of c.args.globals.now) c.as_str-in-None.result.now c.args.name.now.text c.meaning.result None c.as_str-in-None.ensures c.meaning.ensures c.in-None-meaning.is)
     ∙ (ap Some (absent_is c.args.text.now c.args.name.now.text c.as_str-in-None-meaning.result.now c.declares_lower.result c.absent_kind-kind.result c.as_str-in-None-meaning.ensures c.declares_lower.ensures c.absent_kind-kind.ensures)))

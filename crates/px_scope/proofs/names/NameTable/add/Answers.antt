@@ -1,6 +1,5 @@
-use Rattle.std.proofs.Common.{string_bytes, sym, ap, ◌∙◌, arith}
+use Rattle.std.proofs.Common.{string_bytes, arith}
 use Rattle.std.specs.Str.{bytes_eq}
-use Rattle.px_scope.specs.Names.{is_name}
 use Rattle.px_scope.proofs.NameFacts.{list_any_map}
 use Rattle.px_scope.proofs.names.NameTable.add.Goals as goal
 

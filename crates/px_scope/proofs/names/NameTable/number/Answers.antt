@@ -1,7 +1,5 @@
 use Rattle.std.proofs.Common.{string_bytes, sym, ap, ◌∙◌, Some, None, arith}
-use Rattle.std.specs.Option.{option_and_then}
 use Rattle.std.specs.Str.{bytes_eq}
-use Rattle.px_scope.specs.Names.{number}
 use Rattle.px_scope.proofs.NameFacts.{found_in_table, number_below, number_above}
 use Rattle.px_scope.proofs.names.NameTable.number.Goals as goal
 

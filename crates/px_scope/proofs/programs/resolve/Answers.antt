@@ -1,0 +1,9 @@
+use Rattle.px_scope.proofs.SmallSteps.{small_surface}
+use Rattle.px_scope.proofs.ProgramSteps.{each_program_is}
+use Rattle.px_scope.proofs.programs.resolve.Goals as goal
+
+pub resolve_items-requires : goal.resolve_items-requires
+resolve_items-requires c = rw c.as_slice.ensures (small_surface c.args.surface.now c.requires.small c.requires.filled)
+
+pub returns-clause-each_program : goal.returns-clause-each_program
+returns-clause-each_program c = each_program_is c.args.surface.now c.as_slice.result.now c.resolve_items.result c.as_slice.ensures c.resolve_items.ensures
