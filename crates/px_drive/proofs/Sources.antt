@@ -1,10 +1,10 @@
 -- Each layer of a text is one, so the text is one program, or has one fault.
-use Rattle.std.proofs.Common.{◌≡◌, ℕ, ◌+◌, ◌≤◌, List, [], ◌∷◌, length, ◌⊎◌, inl, inr, Result, Ok, Err, refl, ap, subst, arith}
+use Rattle.std.proofs.Common.{◌≡◌, ℕ, List, ◌⊎◌, inl, inr, Result, Ok, Err, refl, ap, subst}
 use Rattle.px_terms.specs.declared.program.Program.{Program}
 use Rattle.px_terms.specs.declared.raw.RawProgram.{RawProgram}
 use Rattle.px_terms.specs.Laws.{DerivationsAreSound}
 use Rattle.px_lexer.specs.declared.token.Token.{Token}
-use Rattle.px_lexer.specs.Tokens.{AreTokens, SpansRise}
+use Rattle.px_lexer.specs.Tokens.{AreTokens}
 use Rattle.px_lexer.specs.Laws as lexer
 use Rattle.px_parser.specs.declared.surface.Surface.{Surface}
 use Rattle.px_parser.specs.Faults.{IsProgramOf, IsFaultOf}
@@ -21,11 +21,6 @@ use Rattle.px_drive.specs.declared.outcome.SourceFault.{SourceFault}
 use Rattle.px_drive.specs.declared.outcome.SourceFault.TheVariants.{Lex, Parse, Scope, Unbuilt}
 use Rattle.px_drive.specs.Sources.{IsSource, IsParseFault, IsScopeFault, IsUnbuilt, IsSourceFault}
 use Rattle.px_drive.specs.Laws.{OneSource, OneSourceFault, NeverBoth, AcceptedIsTrue}
-
--- there are no more tokens than bytes
-pub few_tokens : (from : ℕ) (ts : List Token) (to : ℕ) → SpansRise from ts to → from + length ts ≤ to
-few_tokens from [] to rise = omega (arith, rise)
-few_tokens from (t ∷ ts) to rise = let h = few_tokens t.end ts to rise.2 in omega (arith, h, rise.0, rise.1)
 
 -- what is not thin is no thin program
 pub not_thin : (raw : RawProgram) (result : Result Program ThinEnd) → result ≡ Err thin_ends.NotThin → ((P : Program) → IsThinProgram raw P → IsUnlessNoMemory P result) → (P : Program) → ¬ IsThinProgram raw P

@@ -11,6 +11,8 @@ mod command;
 pub mod laws;
 mod line;
 mod messages;
+#[cfg(test)]
+mod name_texts;
 mod outcome;
 mod stages;
 #[cfg(test)]

@@ -1,5 +1,6 @@
 ghost use Rattle.std.specs.Prelude.{◌<◌};
 
+use crate::name_texts::{FAULTS, HIDING, LAWFUL};
 use crate::{CommandLine, drive, status};
 use px_world::{Bytes, MemoryFiles, MemorySink};
 use std::alloc::{AllocError, Global};
@@ -366,6 +367,27 @@ fn a_programs_text_is_refused(rt: HostRuntime) -> Result<(), Fail> {
         ..REPLAY
     };
     expect(&rt, rt.alloc(), &replayed, 3, "", "source: parse at 6\n")
+}
+
+#[test]
+fn each_rule_of_names_has_its_line(rt: HostRuntime) -> Result<(), Fail> {
+    for (program, line) in FAULTS {
+        expect(&rt, rt.alloc(), &Call { program, ..CHECK }, 3, "", line)?;
+    }
+    Ok(())
+}
+
+#[test]
+fn lawful_names_are_taken(rt: HostRuntime) -> Result<(), Fail> {
+    for program in LAWFUL {
+        let call = Call { program, ..CHECK };
+        expect(&rt, rt.alloc(), &call, 3, "", "source: unbuilt\n")?;
+    }
+    let counts = "checked: datatypes 0, definitions 1, obligations 0\n";
+    for program in HIDING {
+        expect(&rt, rt.alloc(), &Call { program, ..CHECK }, 0, counts, "")?;
+    }
+    Ok(())
 }
 
 #[test]
