@@ -2,6 +2,8 @@ mod DataSteps
 mod DeclarationSteps
 mod DefinitionSteps
 mod Firsts
+mod FittingTerms
+mod FittingTypes
 mod LookupSteps
 mod NameFacts
 mod OneProgram
