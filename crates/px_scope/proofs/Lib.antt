@@ -2,6 +2,7 @@ mod DataSteps
 mod DeclarationSteps
 mod DefinitionSteps
 mod Firsts
+mod FittingDeclarations
 mod FittingTerms
 mod FittingTypes
 mod LookupSteps
