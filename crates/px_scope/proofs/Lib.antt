@@ -3,6 +3,7 @@ mod DeclarationSteps
 mod DefinitionSteps
 mod Firsts
 mod FittingDeclarations
+mod FittingPrograms
 mod FittingTerms
 mod FittingTypes
 mod LookupSteps
