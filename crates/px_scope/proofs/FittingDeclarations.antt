@@ -1,5 +1,5 @@
 -- A declaration that is numbered names what stands before it.
-use Rattle.std.proofs.Common.{◌≡◌, ℕ, ◌+◌, ◌<◌, ◌≤◌, ◌^◌, List, [], ◌∷◌, ◌++◌, map, length, Option, Some, None, refl, sym, ap, ◌∙◌, subst, arith, length-append}
+use Rattle.std.proofs.Common.{◌≡◌, ℕ, ◌+◌, ◌<◌, ◌≤◌, ◌^◌, List, [], ◌∷◌, ◌++◌, length, Some, refl, sym, ap, ◌∙◌, subst, arith, length-append}
 use Rattle.std.specs.Prelude.{All}
 use Rattle.std.specs.List.{slice_get, fold}
 use Rattle.std.proofs.lemmas.List.{length-map}
@@ -25,14 +25,13 @@ use Rattle.px_parser.specs.declared.surface.SCon.{SCon}
 use Rattle.px_parser.specs.declared.surface.SData.{SData}
 use Rattle.px_parser.specs.declared.surface.SFnType.{SFnType}
 use Rattle.px_parser.specs.declared.surface.SParam.{SParam}
-use Rattle.px_parser.specs.declared.surface.SParamKind.TheVariants as param_kinds
 use Rattle.px_parser.specs.declared.surface.SDef.{SDef}
 use Rattle.px_parser.specs.declared.surface.SClaim.{SClaim}
 use Rattle.px_parser.specs.declared.surface.SEquation.{SEquation}
 use Rattle.px_parser.specs.declared.surface.SLemma.{SLemma}
 use Rattle.px_parser.specs.declared.surface.SFun.{SFun}
 use Rattle.px_parser.specs.declared.surface.SReplica.{SReplica}
-use Rattle.px_parser.specs.Sizes.{type_size, types_size, type_depth, types_depth, expr_size, fn_type_size, param_kind_size, param_size, params_size, con_size, cons_size, data_size, def_size, claim_size, equation_size, equations_size, lemma_size, fun_size, funs_size, replica_size}
+use Rattle.px_parser.specs.Sizes.{type_size, type_depth, types_depth, expr_size, fn_type_size, param_kind_size, params_size, cons_size, data_size, def_size, claim_size, equation_size, equations_size, lemma_size, fun_size, funs_size, replica_size}
 use Rattle.px_parser.specs.Sizes.{IsTypeWithin, IsExprWithin, IsFnTypeWithin, IsParamKindWithin, IsParamWithin, IsConWithin, IsDataWithin, IsDefWithin, IsEquationWithin, IsLemmaWithin, IsFunWithin, IsReplicaWithin}
 use Rattle.px_parser.specs.SizeEquations.{largest_map-le, params_size-cons, cons_size-cons, equations_size-cons, funs_size-cons, length-le-params_size, length-le-cons_size, length-le-equations_size, length-le-funs_size}
 use Rattle.px_scope.specs.declared.globals.Constructor.{Constructor}
@@ -41,12 +40,12 @@ use Rattle.px_scope.specs.declared.globals.Meaning.TheVariants as meaning
 use Rattle.px_scope.specs.declared.globals.Globals.{Globals}
 use Rattle.px_scope.specs.declared.locals.TypeLocals.{TypeLocals}
 use Rattle.px_scope.specs.declared.locals.Locals.{Locals}
-use Rattle.px_scope.specs.Standing.{meaning_of, no_parameters, nothing_local}
+use Rattle.px_scope.specs.Standing.{no_parameters, nothing_local}
 use Rattle.px_scope.specs.Names.{number_of}
-use Rattle.px_scope.specs.Numbers.{IsType, AreTypes, IsTerm, IsFunction, AreFunctions}
+use Rattle.px_scope.specs.Numbers.{IsTerm, IsFunction, AreFunctions}
 use Rattle.px_scope.specs.Declaring.{texts, with_datatype, with_lower, function_count, with_definition, with_parameter_of, with_parameter, type_locals, data_locals, first_locals, parameter_locals, body_locals}
 use Rattle.px_scope.specs.Programs.{AreConstructors, IsData, IsFnType, AreParameters, IsDefinition, IsClaim, IsEquation, AreEquations, IsLemma, IsReplica}
-use Rattle.px_scope.specs.Fitting.{Counts, Range, IsShort, IsTypeIn, AreTypesIn, IsConstructorIn, IsFunIn, IsWholeTermIn, type_range, IsConIn, IsDataIn, IsFnTypeIn, AreParametersIn, body_range, IsDefIn, IsClaimIn, IsEquationIn, lemma_range, IsLemmaIn, replica_range, IsReplicaIn}
+use Rattle.px_scope.specs.Fitting.{Counts, Range, AreTypesIn, IsFunIn, IsWholeTermIn, type_range, IsConIn, IsDataIn, IsFnTypeIn, AreParametersIn, body_range, IsDefIn, IsClaimIn, IsEquationIn, lemma_range, IsLemmaIn, replica_range, IsReplicaIn}
 use Rattle.px_scope.proofs.FittingTypes.{types_few, fitting_type, fitting_types}
 use Rattle.px_scope.proofs.FittingTerms.{IsMeaningIn, IsNamedIn, AreGlobalsIn, AreLocalsIn, all_found, size_of_layer, depth_of_layer, fitting_function, fitting_layer}
 
@@ -280,9 +279,9 @@ module _ (G : Globals) (P Q : RawProgram) (agrees : Agrees G P) (front : IsFront
         some = omega arith;
         few = omega arith;
         cons = constructors_in (with_datatype G d.name) (data_locals (length G.datatypes) d.tparams) (type_range (length P.datatypes + 1) (length d.tparams))
-          (omega (arith, agrees.types, length-append G.datatypes (d.name.text ∷ [])))
-          (omega (arith, length-map d.tparams (λ (n : Name). n.text)))
-          is.are_constructors within (omega arith);
+            (omega (arith, agrees.types, length-append G.datatypes (d.name.text ∷ [])))
+            (omega (arith, length-map d.tparams (λ (n : Name). n.text)))
+            is.are_constructors within (omega arith);
       })
 
   -- a definition

@@ -1,6 +1,6 @@
 -- A numbered program is as the check of types asks for it.
-use Rattle.std.proofs.Common.{◌≡◌, ℕ, zero, suc, ◌+◌, ◌<◌, ◌≤◌, ◌^◌, List, [], ◌∷◌, ◌++◌, map, sum, length, Option, Some, None, refl, sym, ap, ◌∙◌, subst, arith, length-append, append-nil, append_assoc}
-use Rattle.std.specs.Prelude.{All, codes}
+use Rattle.std.proofs.Common.{◌≡◌, ℕ, zero, suc, ◌+◌, ◌<◌, ◌≤◌, ◌^◌, List, [], ◌∷◌, ◌++◌, map, sum, length, Option, Some, None, Result, Ok, Err, refl, sym, ap, ◌∙◌, subst, arith, length-append, append-nil, append_assoc}
+use Rattle.std.specs.Prelude.{IfOk, All, codes}
 use Rattle.std.specs.List.{slice_get}
 use Rattle.std.proofs.lemmas.List.{length-map}
 use Rattle.std.proofs.lemmas.List.Sums.{sum-map, sum_by_push}
@@ -12,29 +12,26 @@ use Rattle.px_terms.specs.declared.raw.Decl.TheVariants as decl
 use Rattle.px_terms.specs.declared.raw.RawData.{RawData}
 use Rattle.px_terms.specs.declared.raw.RawDef.{RawDef}
 use Rattle.px_terms.specs.declared.raw.RawClaim.{RawClaim}
-use Rattle.px_terms.specs.declared.raw.RawLemma.{RawLemma}
-use Rattle.px_terms.specs.declared.raw.RawReplica.{RawReplica}
 use Rattle.px_terms.specs.declared.raw.RawProgram.{RawProgram}
 use Rattle.px_parser.specs.declared.surface.SCon.{SCon}
-use Rattle.px_parser.specs.declared.surface.SData.{SData}
-use Rattle.px_parser.specs.declared.surface.SDef.{SDef}
-use Rattle.px_parser.specs.declared.surface.SClaim.{SClaim}
-use Rattle.px_parser.specs.declared.surface.SLemma.{SLemma}
-use Rattle.px_parser.specs.declared.surface.SReplica.{SReplica}
 use Rattle.px_parser.specs.declared.surface.Item.{Item}
 use Rattle.px_parser.specs.declared.surface.Item.TheVariants as items
 use Rattle.px_parser.specs.declared.surface.Surface.{Surface}
 use Rattle.px_parser.specs.Sizes.{item_size, items_size, surface_size, IsItemWithin, IsWithinNesting}
 use Rattle.px_parser.specs.SizeEquations.{items_size-cons}
 use Rattle.px_parser.specs.Filled.{IsFilledItem, IsFilled}
+use Rattle.px_scope.specs.declared.ends.ScopeEnd.{ScopeEnd}
 use Rattle.px_scope.specs.declared.globals.Constructor.{Constructor}
 use Rattle.px_scope.specs.declared.globals.Meaning.{Meaning}
 use Rattle.px_scope.specs.declared.globals.Meaning.TheVariants as meaning
 use Rattle.px_scope.specs.declared.globals.Globals.{Globals}
 use Rattle.px_scope.specs.Standing.{meaning_of, built_in}
+use Rattle.px_scope.specs.Uses.{first_broken}
 use Rattle.px_scope.specs.Declaring.{props_of, with_datatype, with_constructor, with_constructors, function_count, with_claims_of, after}
-use Rattle.px_scope.specs.Programs.{constructor_names, IsData, IsDefinition, IsClaim, IsLemma, IsReplica, IsNext, AreNext, raw_bool, start, IsNumbering}
-use Rattle.px_scope.specs.Fitting.{Counts, IsDataIn, IsDefIn, IsClaimIn, IsLemmaIn, IsReplicaIn, AreAll, AreInOrder, HasNames, def_props, claim_props, obligation_count, bool_alone, IsFitting}
+use Rattle.px_scope.specs.ItemUses.{text_uses}
+use Rattle.px_scope.specs.Programs.{constructor_names, IsNext, AreNext, raw_bool, start, IsNumbering}
+use Rattle.px_scope.specs.Fitting.{AreInOrder, HasNames, def_props, claim_props, obligation_count, bool_alone, IsFitting}
+use Rattle.px_scope.specs.Answers.{Resolves}
 use Rattle.px_scope.proofs.FittingTerms.{IsMeaningIn}
 use Rattle.px_scope.proofs.FittingDeclarations.{constructors_count, IsDeclared, Agrees, IsFront, counts_of, meaning_weaker, data_in, def_in, claim_in, lemma_in, replica_in}
 use Rattle.px_scope.proofs.ProgramSteps.{same_types, same_claims, claims_types, claims_count}
@@ -142,8 +139,8 @@ agrees_next G P agrees (IsNext.definition {d = d} {raw = raw} {result = Q} is e)
       definitions = omega (arith, agrees.definitions, length-append G.claimed (props_of d.props ∷ []));
       constructors = still_declared P Q front G.constructors agrees.constructors;
       meanings = All-push (IsMeaningIn (length Q.defs)) G.meanings m
-        (All-weaker (IsMeaningIn (length P.defs)) (IsMeaningIn (length Q.defs)) (meaning_weaker (length P.defs) (length Q.defs) (omega arith)) G.meanings agrees.meanings)
-        (omega (arith, agrees.definitions));
+          (All-weaker (IsMeaningIn (length P.defs)) (IsMeaningIn (length Q.defs)) (meaning_weaker (length P.defs) (length Q.defs) (omega arith)) G.meanings agrees.meanings)
+          (omega (arith, agrees.definitions));
     }
 agrees_next G P agrees (IsNext.claim {c = c} {raw = raw} {result = Q} is e) =
     let datatypes : Q.datatypes ≡ P.datatypes = ap (λ (x : RawProgram). x.datatypes) e in
@@ -184,8 +181,8 @@ agrees_first = record {
   types = refl;
   definitions = refl;
   constructors = All-cons (IsDeclared start) (record { datatype = 0; number = 0 }) (record { datatype = 0; number = 1 } ∷ [])
-    (record { declared = raw_bool; stands = refl; has = omega arith })
-    (All-cons (IsDeclared start) (record { datatype = 0; number = 1 }) [] (record { declared = raw_bool; stands = refl; has = omega arith }) (All-nil (IsDeclared start)));
+      (record { declared = raw_bool; stands = refl; has = omega arith })
+      (All-cons (IsDeclared start) (record { datatype = 0; number = 1 }) [] (record { declared = raw_bool; stands = refl; has = omega arith }) (All-nil (IsDeclared start)));
   meanings = All-cons (IsMeaningIn 0) meaning.Wle (meaning.Weq ∷ []) tt (All-cons (IsMeaningIn 0) meaning.Weq [] tt (All-nil (IsMeaningIn 0)));
 }
 
@@ -296,18 +293,35 @@ named_next G P named (IsNext.datatype {d = d} {raw = raw} is e) =
       replicas = named.replicas;
     })
 named_next G P named (IsNext.definition {d = d} {raw = raw} is e) = subst HasNames (sym e) (record {
-  datatypes = named.datatypes; cons = named.cons; constructors = named.constructors; lemmas = named.lemmas; replicas = named.replicas;
+  datatypes = named.datatypes;
+  cons = named.cons;
+  constructors = named.constructors;
+  lemmas = named.lemmas;
+  replicas = named.replicas;
   defs = both_longer P.names.defs P.defs d.name.text raw named.defs;
 })
 named_next G P named (IsNext.claim {c = c} {raw = raw} is e) = subst HasNames (sym e) (record {
-  datatypes = named.datatypes; cons = named.cons; constructors = named.constructors; defs = named.defs; lemmas = named.lemmas; replicas = named.replicas;
+  datatypes = named.datatypes;
+  cons = named.cons;
+  constructors = named.constructors;
+  defs = named.defs;
+  lemmas = named.lemmas;
+  replicas = named.replicas;
 })
 named_next G P named (IsNext.lemma {l = l} {raw = raw} is e) = subst HasNames (sym e) (record {
-  datatypes = named.datatypes; cons = named.cons; constructors = named.constructors; defs = named.defs; replicas = named.replicas;
+  datatypes = named.datatypes;
+  cons = named.cons;
+  constructors = named.constructors;
+  defs = named.defs;
+  replicas = named.replicas;
   lemmas = both_longer P.names.lemmas P.lemmas l.name.text raw named.lemmas;
 })
 named_next G P named (IsNext.replica {r = r} {raw = raw} is e) = subst HasNames (sym e) (record {
-  datatypes = named.datatypes; cons = named.cons; constructors = named.constructors; defs = named.defs; lemmas = named.lemmas;
+  datatypes = named.datatypes;
+  cons = named.cons;
+  constructors = named.constructors;
+  defs = named.defs;
+  lemmas = named.lemmas;
   replicas = both_longer P.names.replicas P.replicas r.name.text raw named.replicas;
 })
 
@@ -365,3 +379,11 @@ fitting_program surface P size within filled numbering =
       named = all_named numbering.numbered named_first;
       few = omega arith;
     }
+
+-- so is what is answered
+pub fitting_is : (surface : Surface) (text : List Item) (r : Result RawProgram ScopeEnd) → text ≡ surface.items → Resolves (text_uses text) (AreNext built_in start text) r → surface_size surface ≤ PROGRAM_BYTES → IsWithinNesting surface → IsFilled surface → IfOk r IsFitting
+fitting_is surface text (Ok P) same (fine, are) size within filled = fitting_program surface P size within filled (record {
+  lawful = ap (λ xs. first_broken (text_uses xs)) (sym same) ∙ fine;
+  numbered = subst (λ xs. AreNext built_in start xs P) same are;
+})
+fitting_is surface text (Err end) same fails size within filled = tt

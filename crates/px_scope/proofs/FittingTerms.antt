@@ -1,5 +1,5 @@
 -- A term that is numbered names what may be named at its place.
-use Rattle.std.proofs.Common.{◌≡◌, ℕ, zero, suc, ◌+◌, ◌-◌, ◌<◌, ◌≤◌, ◌^◌, Bool, true, false, cond, List, [], ◌∷◌, ◌++◌, map, sum, take, drop, length, Option, Some, None, refl, sym, ap, ◌∙◌, subst, arith, length-append}
+use Rattle.std.proofs.Common.{◌≡◌, ℕ, zero, suc, ◌+◌, ◌-◌, ◌<◌, ◌≤◌, ◌^◌, Bool, true, false, cond, List, [], ◌∷◌, map, take, drop, length, Option, Some, None, refl, sym, ap, ◌∙◌, subst, arith, length-append}
 use Rattle.std.specs.Prelude.{nat_lt, All}
 use Rattle.std.specs.Option.{option_map, option_and_then}
 use Rattle.std.specs.List.{slice_get}
@@ -7,7 +7,6 @@ use Rattle.std.proofs.lemmas.Bool.{ltb-true, ltb-false}
 use Rattle.std.proofs.lemmas.Option.{slice_get_within, get_or_from_slice_get}
 use Rattle.std.proofs.lemmas.List.{length-map}
 use Rattle.std.proofs.lemmas.List.Elements.{All-nil, All-cons, All-get_or}
-use Rattle.px_terms.specs.Types.{largest}
 use Rattle.px_terms.specs.declared.types.Head.{Head}
 use Rattle.px_terms.specs.declared.types.Head.TheVariants as heads
 use Rattle.px_terms.specs.declared.raw.RawFun.{RawFun}
@@ -38,7 +37,7 @@ use Rattle.px_scope.specs.declared.locals.Locals.{Locals}
 use Rattle.px_scope.specs.Names.{number, number_of}
 use Rattle.px_scope.specs.Standing.{constructor_of, meaning_of, local_at, local_of, head_at, head_of, function_places}
 use Rattle.px_scope.specs.Uses.{bind}
-use Rattle.px_scope.specs.Numbers.{raw_fun, raw_term, raw_arm, AreTypes, IsArgument, named, AreArguments, none, more, IsTermLayer, AreTerms, AreArms, IsFunction, AreFunctions}
+use Rattle.px_scope.specs.Numbers.{raw_fun, raw_term, raw_arm, AreTypes, IsArgument, named, AreArguments, none, more, IsTermLayer, AreTerms, AreArms, IsFunction}
 use Rattle.px_scope.specs.Fitting.{Range, IsShort, IsConstructorIn, IsHeadIn, IsFunIn, IsTermIn, AreTermsIn, AreArmsIn}
 use Rattle.px_scope.proofs.FittingTypes.{number_is, number_within, types_few, fitting_types}
 
@@ -232,24 +231,24 @@ module _ (G : Globals) (P : RawProgram) (R : Range) (globals : AreGlobalsIn P R 
     fitting_layer most bound {L} {t = t} locals (IsTermLayer.construction {at = at} {name = name} {types = types} {fields = fields} {con = con} {ts = ts} {fs = fs} stands are terms is) deep small =
         by_kind most bound at (kinds.Con con.datatype con.number ts fs) _ t is (kinds.outs-Con con.datatype con.number ts fs)
         (IsTermIn.construction {room = most - 1} (omega arith) (constructor_in name.text con stands) (types_few are (omega arith))
-          (fitting_types G L.types R globals.datatypes locals.tparams (most - 1) are (omega arith) (omega arith))
-          (omega (arith, terms_count terms, length-le-exprs_size fields))
-          (fitting_terms (most - 1) bound locals terms (omega arith) (omega arith)))
+        (fitting_types G L.types R globals.datatypes locals.tparams (most - 1) are (omega arith) (omega arith))
+        (omega (arith, terms_count terms, length-le-exprs_size fields))
+        (fitting_terms (most - 1) bound locals terms (omega arith) (omega arith)))
     fitting_layer most bound {L} {t = t} locals (IsTermLayer.call {at = at} {name = name} {types = types} {args = args} {head = head} {ts = ts} {funs = funs} {terms = terms} stands are arguments rest is) deep small =
         let places = function_places G L name.text in
         by_kind most bound at (kinds.Call (raw_fun name head ts) funs terms) _ t is (kinds.outs-Call (raw_fun name head ts) funs terms)
         (IsTermIn.call {room = most - 1} (omega arith)
-          (fun_in (most - 1) bound L locals name types head ts (raw_fun name head ts) stands are (omega arith) (omega arith) refl)
-          (omega (arith, arguments_count arguments, length-le-exprs_size (take places args), sizes_take places args))
-          (arguments_in (most - 1) bound locals arguments (omega (arith, depths_take places args)) (omega (arith, sizes_take places args)))
-          (omega (arith, terms_count rest, length-le-exprs_size (drop places args), sizes_drop places args))
-          (fitting_terms (most - 1) bound locals rest (omega (arith, depths_drop places args)) (omega (arith, sizes_drop places args))))
+        (fun_in (most - 1) bound L locals name types head ts (raw_fun name head ts) stands are (omega arith) (omega arith) refl)
+        (omega (arith, arguments_count arguments, length-le-exprs_size (take places args), sizes_take places args))
+        (arguments_in (most - 1) bound locals arguments (omega (arith, depths_take places args)) (omega (arith, sizes_take places args)))
+        (omega (arith, terms_count rest, length-le-exprs_size (drop places args), sizes_drop places args))
+        (fitting_terms (most - 1) bound locals rest (omega (arith, depths_drop places args)) (omega (arith, sizes_drop places args))))
     fitting_layer most bound {t = t} locals (IsTermLayer.choice {at = at} {on = on} {arms = arms} {scrutinee = scrutinee} {cases = cases} on_is are is) deep small =
         by_kind most bound at (kinds.Match scrutinee cases) _ t is (kinds.outs-Match scrutinee cases)
         (IsTermIn.choice {room = most - 1} (omega arith)
-          (fitting_layer (most - 1) bound locals on_is (omega (arith, depth_of_layer on)) (omega (arith, size_of_layer on)))
-          (omega (arith, arms_count are, length-le-arms_size arms))
-          (fitting_arms (most - 1) bound locals are (omega arith) (omega arith)))
+        (fitting_layer (most - 1) bound locals on_is (omega (arith, depth_of_layer on)) (omega (arith, size_of_layer on)))
+        (omega (arith, arms_count are, length-le-arms_size arms))
+        (fitting_arms (most - 1) bound locals are (omega arith) (omega arith)))
 
     -- terms of at most so many levels
     fitting_terms : (most bound : ℕ) {L : Locals} {es : List SExpr} {ts : List RawTerm} → AreLocalsIn R bound L → AreTerms G L es ts → exprs_depth es ≤ most → exprs_size es < 2 ^ 32 → AreTermsIn P R most bound ts
@@ -266,6 +265,6 @@ module _ (G : Globals) (P : RawProgram) (R : Range) (globals : AreGlobalsIn P R 
         arm_in most bound arm con body a cases is (constructor_in arm.name.text con stands)
         (omega (arith, arms_size-cons arm arms, arm_size-body arm))
         (fitting_layer most (bound + length (map (λ (v : Name). v.at) arm.vars)) (bound_in R bound L arm.vars locals) body_is
-          (omega (arith, arm_depth-body arm, depth_of_layer arm.body))
-          (omega (arith, arms_size-cons arm arms, arm_size-body arm, size_of_layer arm.body)))
+        (omega (arith, arm_depth-body arm, depth_of_layer arm.body))
+        (omega (arith, arms_size-cons arm arms, arm_size-body arm, size_of_layer arm.body)))
         (fitting_arms most bound locals rest (omega arith) (omega (arith, arms_size-cons arm arms)))

@@ -1,5 +1,5 @@
 -- A type that is numbered names what may be named at its place.
-use Rattle.std.proofs.Common.{◌≡◌, ℕ, zero, suc, ◌+◌, ◌<◌, ◌≤◌, ◌^◌, Bool, true, false, cond, List, [], ◌∷◌, length, Option, Some, None, refl, sym, ap, ◌∙◌, subst, arith}
+use Rattle.std.proofs.Common.{◌≡◌, ℕ, zero, suc, ◌<◌, ◌≤◌, ◌^◌, Bool, true, false, cond, List, length, Option, Some, None, refl, ap, ◌∙◌, subst, arith}
 use Rattle.std.specs.Option.{option_map, option_and_then}
 use Rattle.std.specs.List.{position}
 use Rattle.std.specs.Str.{bytes_eq}
@@ -8,7 +8,7 @@ use Rattle.std.proofs.lemmas.List.Quantifiers.{position-Some}
 use Rattle.px_terms.specs.declared.raw.RawTyKind.{RawTyKind}
 use Rattle.px_terms.specs.declared.raw.RawTyKind.TheVariants as type_kinds
 use Rattle.px_terms.specs.declared.raw.RawTy.{RawTy, out-RawTy}
-use Rattle.px_terms.specs.declared.raw.RawTy.TheViews.{roll-RawTy, out-roll-RawTy}
+use Rattle.px_terms.specs.declared.raw.RawTy.TheViews.{out-roll-RawTy}
 use Rattle.px_parser.specs.declared.surface.SType.{SType, out-SType}
 use Rattle.px_parser.specs.Sizes.{type_size, types_size, type_depth, types_depth}
 use Rattle.px_parser.specs.SizeEquations.{type_size-out, type_depth-out, types_size-cons, length-le-types_size}
