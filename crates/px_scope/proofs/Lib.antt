@@ -2,6 +2,10 @@ mod DataSteps
 mod DeclarationSteps
 mod DefinitionSteps
 mod Firsts
+mod FittingDeclarations
+mod FittingPrograms
+mod FittingTerms
+mod FittingTypes
 mod LookupSteps
 mod NameFacts
 mod OneProgram

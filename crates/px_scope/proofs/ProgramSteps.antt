@@ -41,15 +41,15 @@ pub next_push : {G : Globals} {P Q : RawProgram} {xs : List Item} (x : Item) (R 
 next_push x R none next = more next none
 next_push x R (more first others) next = more first (next_push x R others next)
 
-same_types : (own number : ℕ) (G : Globals) (cons : List SCon) → (with_constructors own number G cons).datatypes ≡ G.datatypes
+pub same_types : (own number : ℕ) (G : Globals) (cons : List SCon) → (with_constructors own number G cons).datatypes ≡ G.datatypes
 same_types own number G [] = refl
 same_types own number G (con ∷ cons) = same_types own (number + 1) (with_constructor own number G con) cons
 
-same_claims : (own number : ℕ) (G : Globals) (cons : List SCon) → (with_constructors own number G cons).claimed ≡ G.claimed
+pub same_claims : (own number : ℕ) (G : Globals) (cons : List SCon) → (with_constructors own number G cons).claimed ≡ G.claimed
 same_claims own number G [] = refl
 same_claims own number G (con ∷ cons) = same_claims own (number + 1) (with_constructor own number G con) cons
 
-claims_types : (G : Globals) (meaning : Option Meaning) (props : List Prop) → (with_claims_of G meaning props).datatypes ≡ G.datatypes
+pub claims_types : (G : Globals) (meaning : Option Meaning) (props : List Prop) → (with_claims_of G meaning props).datatypes ≡ G.datatypes
 claims_types G None props = refl
 claims_types G (Some Wle) props = refl
 claims_types G (Some Weq) props = refl
@@ -57,7 +57,7 @@ claims_types G (Some (Definition n functions)) props = refl
 claims_types G (Some Lemma) props = refl
 claims_types G (Some Replica) props = refl
 
-claims_count : (G : Globals) (meaning : Option Meaning) (props : List Prop) → length (with_claims_of G meaning props).claimed ≡ length G.claimed
+pub claims_count : (G : Globals) (meaning : Option Meaning) (props : List Prop) → length (with_claims_of G meaning props).claimed ≡ length G.claimed
 claims_count G None props = refl
 claims_count G (Some Wle) props = refl
 claims_count G (Some Weq) props = refl
