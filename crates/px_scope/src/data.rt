@@ -22,25 +22,25 @@ pub(crate) fn resolve_data(
     alloc: Global,
     text: &[Item],
     globals: &mut Globals,
-    data: &SData,
+    declaration: &SData,
 ) -> Result<RawData, ScopeEnd>
     requires number { length globals.old.datatypes < 2 ^ 32 }
-    requires tparams { length data.now.tparams < 2 ^ 32 }
-    requires cons { length data.now.cons < 2 ^ 32 }
-    ensures { Resolves (data_uses text.now globals.old data.now) (λ raw. IsData globals.old data.now raw × (globals.new ≡ after globals.old (items.Datatype data.now))) result }
+    requires tparams { length declaration.now.tparams < 2 ^ 32 }
+    requires cons { length declaration.now.cons < 2 ^ 32 }
+    ensures { Resolves (data_uses text.now globals.old declaration.now) (λ raw. IsData globals.old declaration.now raw × (globals.new ≡ after globals.old (items.Datatype declaration.now))) result }
 {
-    if globals.has_type(data.name.text.as_str()) {
-        return Err(fault(ScopeKind::Repeated, data.name.at));
+    if globals.has_type(declaration.name.text.as_str()) {
+        return Err(fault(ScopeKind::Repeated, declaration.name.at));
     }
     let number = globals.datatypes.len() as u32;
-    globals.datatypes.add(alloc, data.name.text.as_str())?;
+    globals.datatypes.add(alloc, declaration.name.text.as_str())?;
     let mut types = TypeLocals::new(alloc);
-    add_type_parameters(alloc, globals, &mut types, data.tparams.as_slice())?;
+    add_type_parameters(alloc, globals, &mut types, declaration.tparams.as_slice())?;
     types.own = Some(number);
-    let cons = resolve_constructors(alloc, text, globals, &types, number, data.cons.as_slice())?;
+    let cons = resolve_constructors(alloc, text, globals, &types, number, declaration.cons.as_slice())?;
     Ok(RawData {
-        at: data.name.at,
-        tparams: data.tparams.len() as u32,
+        at: declaration.name.at,
+        tparams: declaration.tparams.len() as u32,
         cons,
     })
 }
