@@ -69,11 +69,16 @@ extends_again P Q R p q = record {
 
 -- one declaration more adds at the end
 next_extends : (G : Globals) (P : RawProgram) {item : Item} {Q : RawProgram} → IsNext G P item Q → Extends P Q
-next_extends G P (IsNext.datatype {raw = raw} is e) = subst (Extends P) (sym e) (record { datatypes = front_push P.datatypes raw; defs = λ n x found. found; claims = λ n x found. found; lemmas = λ n x found. found; replicas = λ n x found. found })
-next_extends G P (IsNext.definition {raw = raw} is e) = subst (Extends P) (sym e) (record { datatypes = λ n x found. found; defs = front_push P.defs raw; claims = λ n x found. found; lemmas = λ n x found. found; replicas = λ n x found. found })
-next_extends G P (IsNext.claim {raw = raw} is e) = subst (Extends P) (sym e) (record { datatypes = λ n x found. found; defs = λ n x found. found; claims = front_push P.claims raw; lemmas = λ n x found. found; replicas = λ n x found. found })
-next_extends G P (IsNext.lemma {raw = raw} is e) = subst (Extends P) (sym e) (record { datatypes = λ n x found. found; defs = λ n x found. found; claims = λ n x found. found; lemmas = front_push P.lemmas raw; replicas = λ n x found. found })
-next_extends G P (IsNext.replica {raw = raw} is e) = subst (Extends P) (sym e) (record { datatypes = λ n x found. found; defs = λ n x found. found; claims = λ n x found. found; lemmas = λ n x found. found; replicas = front_push P.replicas raw })
+next_extends G P (IsNext.datatype {raw = raw} is e) =
+    subst (Extends P) (sym e) (record { datatypes = front_push P.datatypes raw; defs = λ n x found. found; claims = λ n x found. found; lemmas = λ n x found. found; replicas = λ n x found. found })
+next_extends G P (IsNext.definition {raw = raw} is e) =
+    subst (Extends P) (sym e) (record { datatypes = λ n x found. found; defs = front_push P.defs raw; claims = λ n x found. found; lemmas = λ n x found. found; replicas = λ n x found. found })
+next_extends G P (IsNext.claim {raw = raw} is e) =
+    subst (Extends P) (sym e) (record { datatypes = λ n x found. found; defs = λ n x found. found; claims = front_push P.claims raw; lemmas = λ n x found. found; replicas = λ n x found. found })
+next_extends G P (IsNext.lemma {raw = raw} is e) =
+    subst (Extends P) (sym e) (record { datatypes = λ n x found. found; defs = λ n x found. found; claims = λ n x found. found; lemmas = front_push P.lemmas raw; replicas = λ n x found. found })
+next_extends G P (IsNext.replica {raw = raw} is e) =
+    subst (Extends P) (sym e) (record { datatypes = λ n x found. found; defs = λ n x found. found; claims = λ n x found. found; lemmas = λ n x found. found; replicas = front_push P.replicas raw })
 
 -- so do declarations
 all_extend : {G : Globals} {P : RawProgram} {text : List Item} {Q : RawProgram} → AreNext G P text Q → Extends P Q
@@ -81,7 +86,8 @@ all_extend {P = P} AreNext.none = extends_itself P
 all_extend {G = G} {P = P} {Q = R} (AreNext.more {Q = Q} first rest) = extends_again P Q R (next_extends G P first) (all_extend rest)
 
 -- the constructors of one datatype more
-added_constructors : (F : Constructor → Type 0) (own number : ℕ) (G : Globals) (cons : List SCon) → All F G.constructors → ((n : ℕ) → n < number + length cons → F (record { datatype = own; number = n })) → All F (with_constructors own number G cons).constructors
+added_constructors : (F : Constructor → Type 0) (own number : ℕ) (G : Globals) (cons : List SCon) → All F G.constructors →
+    ((n : ℕ) → n < number + length cons → F (record { datatype = own; number = n })) → All F (with_constructors own number G cons).constructors
 added_constructors F own number G [] all new = all
 added_constructors F own number G (con ∷ cons) all new =
     added_constructors F own (number + 1) (with_constructor own number G con) cons
@@ -125,7 +131,8 @@ agrees_next G P agrees (IsNext.datatype {d = d} {raw = raw} {result = Q} is e) =
     record {
       types = ap length (same_types own 0 H d.cons) ∙ omega (arith, agrees.types, ap length all, length-append G.datatypes (d.name.text ∷ []), length-append P.datatypes (raw ∷ []));
       definitions = ap length (same_claims own 0 H d.cons) ∙ agrees.definitions ∙ ap length (sym defs);
-      constructors = added_constructors (IsDeclared Q) own 0 H d.cons (still_declared P Q front G.constructors agrees.constructors) (λ n below. record { declared = raw; stands = stands; has = omega arith });
+      constructors = added_constructors (IsDeclared Q) own 0 H d.cons (still_declared P Q front G.constructors agrees.constructors)
+          (λ n below. record { declared = raw; stands = stands; has = omega arith });
       meanings = rw (same_meanings own 0 H d.cons, defs) agrees.meanings;
     }
 agrees_next G P agrees (IsNext.definition {d = d} {raw = raw} {result = Q} is e) =
@@ -199,7 +206,8 @@ order_next : (before between after rest : List Decl) (d : Decl) → between ≡ 
 order_next before between after rest d one all = all ∙ ap (λ ds. ds ++ rest) one ∙ append_assoc before (d ∷ []) rest
 
 -- the order from one declaration on
-ordered_next : (G : Globals) (P Q : RawProgram) {item : Item} {M : RawProgram} → Agrees G P → IsNext G P item M → Extends M Q → IsItemWithin item → IsFilledItem item → item_size item < 2 ^ 32 → IsOrdered M Q → IsOrdered P Q
+ordered_next : (G : Globals) (P Q : RawProgram) {item : Item} {M : RawProgram} → Agrees G P → IsNext G P item M → Extends M Q → IsItemWithin item →
+    IsFilledItem item → item_size item < 2 ^ 32 → IsOrdered M Q → IsOrdered P Q
 ordered_next G P Q agrees (IsNext.datatype {d = d} {raw = raw} {result = M} is e) extends within filled small ordered =
     let front = (extends_again P M Q (next_extends G P (IsNext.datatype is e)) extends).datatypes in
     let all : M.datatypes ≡ P.datatypes ++ raw ∷ [] = ap (λ (x : RawProgram). x.datatypes) e in
@@ -207,7 +215,10 @@ ordered_next G P Q agrees (IsNext.datatype {d = d} {raw = raw} {result = M} is e
     record {
       rest = decl.Datatype (length P.datatypes) ∷ ordered.rest;
       order = order_next P.order M.order Q.order ordered.rest (decl.Datatype (length P.datatypes)) (ap (λ (x : RawProgram). x.order) e) ordered.order;
-      fits = AreInOrder.datatype refl (extends.datatypes (length P.datatypes) raw (rw all (end_of P.datatypes raw))) (data_in G P Q agrees front d raw is filled within small) (subst (λ C. AreInOrder Q C ordered.rest) counts ordered.fits);
+      fits = AreInOrder.datatype refl
+          (extends.datatypes (length P.datatypes) raw (rw all (end_of P.datatypes raw)))
+          (data_in G P Q agrees front d raw is filled within small)
+          (subst (λ C. AreInOrder Q C ordered.rest) counts ordered.fits);
     }
 ordered_next G P Q agrees (IsNext.definition {d = d} {raw = raw} {result = M} is e) extends within filled small ordered =
     let front = (extends_again P M Q (next_extends G P (IsNext.definition is e)) extends).datatypes in
@@ -216,7 +227,10 @@ ordered_next G P Q agrees (IsNext.definition {d = d} {raw = raw} {result = M} is
     record {
       rest = decl.Definition (length P.defs) ∷ ordered.rest;
       order = order_next P.order M.order Q.order ordered.rest (decl.Definition (length P.defs)) (ap (λ (x : RawProgram). x.order) e) ordered.order;
-      fits = AreInOrder.definition refl (extends.defs (length P.defs) raw (rw all (end_of P.defs raw))) (def_in G P Q agrees front d raw is within small) (subst (λ C. AreInOrder Q C ordered.rest) counts ordered.fits);
+      fits = AreInOrder.definition refl
+          (extends.defs (length P.defs) raw (rw all (end_of P.defs raw)))
+          (def_in G P Q agrees front d raw is within small)
+          (subst (λ C. AreInOrder Q C ordered.rest) counts ordered.fits);
     }
 ordered_next G P Q agrees (IsNext.claim {c = c} {raw = raw} {result = M} is e) extends within filled small ordered =
     let front = (extends_again P M Q (next_extends G P (IsNext.claim is e)) extends).datatypes in
@@ -225,7 +239,10 @@ ordered_next G P Q agrees (IsNext.claim {c = c} {raw = raw} {result = M} is e) e
     record {
       rest = decl.Claim (length P.claims) ∷ ordered.rest;
       order = order_next P.order M.order Q.order ordered.rest (decl.Claim (length P.claims)) (ap (λ (x : RawProgram). x.order) e) ordered.order;
-      fits = AreInOrder.claim refl (extends.claims (length P.claims) raw (rw all (end_of P.claims raw))) (claim_in G P Q agrees front c raw is small) (subst (λ C. AreInOrder Q C ordered.rest) counts ordered.fits);
+      fits = AreInOrder.claim refl
+          (extends.claims (length P.claims) raw (rw all (end_of P.claims raw)))
+          (claim_in G P Q agrees front c raw is small)
+          (subst (λ C. AreInOrder Q C ordered.rest) counts ordered.fits);
     }
 ordered_next G P Q agrees (IsNext.lemma {l = l} {raw = raw} {result = M} is e) extends within filled small ordered =
     let front = (extends_again P M Q (next_extends G P (IsNext.lemma is e)) extends).datatypes in
@@ -234,7 +251,10 @@ ordered_next G P Q agrees (IsNext.lemma {l = l} {raw = raw} {result = M} is e) e
     record {
       rest = decl.Lemma (length P.lemmas) ∷ ordered.rest;
       order = order_next P.order M.order Q.order ordered.rest (decl.Lemma (length P.lemmas)) (ap (λ (x : RawProgram). x.order) e) ordered.order;
-      fits = AreInOrder.lemma refl (extends.lemmas (length P.lemmas) raw (rw all (end_of P.lemmas raw))) (lemma_in G P Q agrees front l raw is within small) (subst (λ C. AreInOrder Q C ordered.rest) counts ordered.fits);
+      fits = AreInOrder.lemma refl
+          (extends.lemmas (length P.lemmas) raw (rw all (end_of P.lemmas raw)))
+          (lemma_in G P Q agrees front l raw is within small)
+          (subst (λ C. AreInOrder Q C ordered.rest) counts ordered.fits);
     }
 ordered_next G P Q agrees (IsNext.replica {r = r} {raw = raw} {result = M} is e) extends within filled small ordered =
     let front = (extends_again P M Q (next_extends G P (IsNext.replica is e)) extends).datatypes in
@@ -243,11 +263,15 @@ ordered_next G P Q agrees (IsNext.replica {r = r} {raw = raw} {result = M} is e)
     record {
       rest = decl.Replica (length P.replicas) ∷ ordered.rest;
       order = order_next P.order M.order Q.order ordered.rest (decl.Replica (length P.replicas)) (ap (λ (x : RawProgram). x.order) e) ordered.order;
-      fits = AreInOrder.replica refl (extends.replicas (length P.replicas) raw (rw all (end_of P.replicas raw))) (replica_in G P Q agrees front r raw is within small) (subst (λ C. AreInOrder Q C ordered.rest) counts ordered.fits);
+      fits = AreInOrder.replica refl
+          (extends.replicas (length P.replicas) raw (rw all (end_of P.replicas raw)))
+          (replica_in G P Q agrees front r raw is within small)
+          (subst (λ C. AreInOrder Q C ordered.rest) counts ordered.fits);
     }
 
 -- all declarations stand in order
-all_ordered : {G : Globals} {P : RawProgram} {text : List Item} {Q : RawProgram} → AreNext G P text Q → Agrees G P → All IsItemWithin text → All IsFilledItem text → items_size text < 2 ^ 32 → IsOrdered P Q
+all_ordered : {G : Globals} {P : RawProgram} {text : List Item} {Q : RawProgram} → AreNext G P text Q → Agrees G P → All IsItemWithin text →
+    All IsFilledItem text → items_size text < 2 ^ 32 → IsOrdered P Q
 all_ordered {P = P} AreNext.none agrees within filled small = record {
   rest = [];
   order = sym (append-nil P.order);
@@ -363,12 +387,14 @@ counted_next G P (IsNext.lemma {l = l} {raw = raw} is e) =
 counted_next G P (IsNext.replica {r = r} is e) = subst (λ (x : RawProgram). obligation_count x ≤ obligation_count P + item_size (items.Replica r)) (sym e) (omega arith)
 
 -- all declarations have no more obligations than parts
-all_counted : {G : Globals} {P : RawProgram} {text : List Item} {Q : RawProgram} → AreNext G P text Q → obligation_count Q ≤ obligation_count P + items_size text
+all_counted : {G : Globals} {P : RawProgram} {text : List Item} {Q : RawProgram} → AreNext G P text Q →
+    obligation_count Q ≤ obligation_count P + items_size text
 all_counted AreNext.none = omega arith
 all_counted {G = G} {P = P} (AreNext.more {item = item} {text = text} first rest) = omega (arith, counted_next G P first, all_counted rest, items_size-cons item text)
 
 -- the numbered program of a surface within the limits is as the check of types asks for it
-pub fitting_program : (surface : Surface) (P : RawProgram) → surface_size surface ≤ PROGRAM_BYTES → IsWithinNesting surface → IsFilled surface → IsNumbering surface P → IsFitting P
+pub fitting_program : (surface : Surface) (P : RawProgram) → surface_size surface ≤ PROGRAM_BYTES → IsWithinNesting surface → IsFilled surface →
+    IsNumbering surface P → IsFitting P
 fitting_program surface P size within filled numbering =
     let small : items_size surface.items < 2 ^ 32 = omega arith in
     let ordered = all_ordered numbering.numbered agrees_first within filled small in
@@ -381,7 +407,9 @@ fitting_program surface P size within filled numbering =
     }
 
 -- so is what is answered
-pub fitting_is : (surface : Surface) (text : List Item) (r : Result RawProgram ScopeEnd) → text ≡ surface.items → Resolves (text_uses text) (AreNext built_in start text) r → surface_size surface ≤ PROGRAM_BYTES → IsWithinNesting surface → IsFilled surface → IfOk r IsFitting
+pub fitting_is : (surface : Surface) (text : List Item) (r : Result RawProgram ScopeEnd) → text ≡ surface.items →
+    Resolves (text_uses text) (AreNext built_in start text) r → surface_size surface ≤ PROGRAM_BYTES → IsWithinNesting surface → IsFilled surface →
+    IfOk r IsFitting
 fitting_is surface text (Ok P) same (fine, are) size within filled = fitting_program surface P size within filled (record {
   lawful = ap (λ xs. first_broken (text_uses xs)) (sym same) ∙ fine;
   numbered = subst (λ xs. AreNext built_in start xs P) same are;
