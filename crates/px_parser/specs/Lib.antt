@@ -11,3 +11,4 @@ pub mod Laws
 pub mod Sizes
 pub mod SizeEquations
 pub mod Filled
+pub mod Named
