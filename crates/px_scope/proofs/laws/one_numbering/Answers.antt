@@ -1,5 +1,3 @@
-use Rattle.px_scope.specs.Lawful.{IsLawful}
-use Rattle.px_scope.proofs.LawfulNames.{lawful_program}
 use Rattle.px_scope.specs.Fitting.{IsFitting}
 use Rattle.px_scope.proofs.FittingPrograms.{fitting_program}
 use Rattle.px_scope.proofs.FittingDeclarations.{constructors_count}
