@@ -1,5 +1,5 @@
 -- A declaration that is numbered names what stands before it.
-use Rattle.std.proofs.Common.{◌≡◌, ℕ, ◌+◌, ◌<◌, ◌≤◌, ◌^◌, List, [], ◌∷◌, ◌++◌, map, length, Option, Some, None, refl, sym, ap, ◌∙◌, subst, arith, length-append}
+use Rattle.std.proofs.Common.{◌≡◌, ℕ, ◌+◌, ◌<◌, ◌≤◌, ◌^◌, List, [], ◌∷◌, ◌++◌, length, Some, refl, sym, ap, ◌∙◌, subst, arith, length-append}
 use Rattle.std.specs.Prelude.{All}
 use Rattle.std.specs.List.{slice_get, fold}
 use Rattle.std.proofs.lemmas.List.{length-map}
@@ -25,14 +25,13 @@ use Rattle.px_parser.specs.declared.surface.SCon.{SCon}
 use Rattle.px_parser.specs.declared.surface.SData.{SData}
 use Rattle.px_parser.specs.declared.surface.SFnType.{SFnType}
 use Rattle.px_parser.specs.declared.surface.SParam.{SParam}
-use Rattle.px_parser.specs.declared.surface.SParamKind.TheVariants as param_kinds
 use Rattle.px_parser.specs.declared.surface.SDef.{SDef}
 use Rattle.px_parser.specs.declared.surface.SClaim.{SClaim}
 use Rattle.px_parser.specs.declared.surface.SEquation.{SEquation}
 use Rattle.px_parser.specs.declared.surface.SLemma.{SLemma}
 use Rattle.px_parser.specs.declared.surface.SFun.{SFun}
 use Rattle.px_parser.specs.declared.surface.SReplica.{SReplica}
-use Rattle.px_parser.specs.Sizes.{type_size, types_size, type_depth, types_depth, expr_size, fn_type_size, param_kind_size, param_size, params_size, con_size, cons_size, data_size, def_size, claim_size, equation_size, equations_size, lemma_size, fun_size, funs_size, replica_size}
+use Rattle.px_parser.specs.Sizes.{type_size, type_depth, types_depth, expr_size, fn_type_size, param_kind_size, params_size, cons_size, data_size, def_size, claim_size, equation_size, equations_size, lemma_size, fun_size, funs_size, replica_size}
 use Rattle.px_parser.specs.Sizes.{IsTypeWithin, IsExprWithin, IsFnTypeWithin, IsParamKindWithin, IsParamWithin, IsConWithin, IsDataWithin, IsDefWithin, IsEquationWithin, IsLemmaWithin, IsFunWithin, IsReplicaWithin}
 use Rattle.px_parser.specs.SizeEquations.{largest_map-le, params_size-cons, cons_size-cons, equations_size-cons, funs_size-cons, length-le-params_size, length-le-cons_size, length-le-equations_size, length-le-funs_size}
 use Rattle.px_scope.specs.declared.globals.Constructor.{Constructor}
@@ -41,12 +40,12 @@ use Rattle.px_scope.specs.declared.globals.Meaning.TheVariants as meaning
 use Rattle.px_scope.specs.declared.globals.Globals.{Globals}
 use Rattle.px_scope.specs.declared.locals.TypeLocals.{TypeLocals}
 use Rattle.px_scope.specs.declared.locals.Locals.{Locals}
-use Rattle.px_scope.specs.Standing.{meaning_of, no_parameters, nothing_local}
+use Rattle.px_scope.specs.Standing.{no_parameters, nothing_local}
 use Rattle.px_scope.specs.Names.{number_of}
-use Rattle.px_scope.specs.Numbers.{IsType, AreTypes, IsTerm, IsFunction, AreFunctions}
+use Rattle.px_scope.specs.Numbers.{IsTerm, IsFunction, AreFunctions}
 use Rattle.px_scope.specs.Declaring.{texts, with_datatype, with_lower, function_count, with_definition, with_parameter_of, with_parameter, type_locals, data_locals, first_locals, parameter_locals, body_locals}
 use Rattle.px_scope.specs.Programs.{AreConstructors, IsData, IsFnType, AreParameters, IsDefinition, IsClaim, IsEquation, AreEquations, IsLemma, IsReplica}
-use Rattle.px_scope.specs.Fitting.{Counts, Range, IsShort, IsTypeIn, AreTypesIn, IsConstructorIn, IsFunIn, IsWholeTermIn, type_range, IsConIn, IsDataIn, IsFnTypeIn, AreParametersIn, body_range, IsDefIn, IsClaimIn, IsEquationIn, lemma_range, IsLemmaIn, replica_range, IsReplicaIn}
+use Rattle.px_scope.specs.Fitting.{Counts, Range, AreTypesIn, IsFunIn, IsWholeTermIn, type_range, IsConIn, IsDataIn, IsFnTypeIn, AreParametersIn, body_range, IsDefIn, IsClaimIn, IsEquationIn, lemma_range, IsLemmaIn, replica_range, IsReplicaIn}
 use Rattle.px_scope.proofs.FittingTypes.{types_few, fitting_type, fitting_types}
 use Rattle.px_scope.proofs.FittingTerms.{IsMeaningIn, IsNamedIn, AreGlobalsIn, AreLocalsIn, all_found, size_of_layer, depth_of_layer, fitting_function, fitting_layer}
 
@@ -60,7 +59,8 @@ constructors_count AreConstructors.none = refl
 constructors_count (AreConstructors.more are is rest) = let others = constructors_count rest in omega arith
 
 -- as many parameters are numbered as are written
-parameters_count : {G : Globals} {T : TypeLocals} {ps : List SParam} {fs : List RawFnType} {ts : List RawTy} → AreParameters G T ps fs ts → length fs + length ts ≡ length ps
+parameters_count : {G : Globals} {T : TypeLocals} {ps : List SParam} {fs : List RawFnType} {ts : List RawTy} → AreParameters G T ps fs ts →
+    length fs + length ts ≡ length ps
 parameters_count AreParameters.none = refl
 parameters_count (AreParameters.value kind is rest) = let others = parameters_count rest in omega arith
 parameters_count (AreParameters.function kind is rest) = let others = parameters_count rest in omega arith
@@ -81,7 +81,10 @@ module _ (G : Globals) (T : TypeLocals) (R : Range) (datatypes : length G.dataty
   constructors_in (AreConstructors.more {con = con} {cons = cons} {c = c} {cs = cs} are is rest) within small =
       let sizes = cons_size-cons con cons in
       All-cons (IsConIn R) c cs
-      (subst (IsConIn R) (sym is) (record { few = types_few are (omega arith); fields = fitting_types G T R datatypes tparams NESTING are (types_within con.fields (All-head IsConWithin con cons within)) (omega arith) }))
+      (subst (IsConIn R) (sym is) (record {
+        few = types_few are (omega arith);
+        fields = fitting_types G T R datatypes tparams NESTING are (types_within con.fields (All-head IsConWithin con cons within)) (omega arith);
+      }))
       (constructors_in rest (All-tail IsConWithin con cons within) (omega arith))
 
   fn_type_in : (f : SFnType) (g : RawFnType) → IsFnType G T f g → IsFnTypeWithin f → fn_type_size f < 2 ^ 32 → IsFnTypeIn R g
@@ -92,7 +95,8 @@ module _ (G : Globals) (T : TypeLocals) (R : Range) (datatypes : length G.dataty
     few_props = omega arith;
   })
 
-  functions_in : {ps : List SParam} {fs : List RawFnType} {ts : List RawTy} → AreParameters G T ps fs ts → All IsParamWithin ps → params_size ps < 2 ^ 32 → All (IsFnTypeIn R) fs
+  functions_in : {ps : List SParam} {fs : List RawFnType} {ts : List RawTy} → AreParameters G T ps fs ts → All IsParamWithin ps →
+      params_size ps < 2 ^ 32 → All (IsFnTypeIn R) fs
   functions_in AreParameters.none within small = All-nil (IsFnTypeIn R)
   functions_in (AreParameters.value {p = p} {ps = ps} kind is rest) within small =
       functions_in rest (All-tail IsParamWithin p ps within) (omega (arith, params_size-cons p ps))
@@ -103,7 +107,8 @@ module _ (G : Globals) (T : TypeLocals) (R : Range) (datatypes : length G.dataty
       (fn_type_in f g is (subst IsParamKindWithin kind (All-head IsParamWithin p ps within)) (omega arith))
       (functions_in rest (All-tail IsParamWithin p ps within) (omega arith))
 
-  values_in : {ps : List SParam} {fs : List RawFnType} {ts : List RawTy} → AreParameters G T ps fs ts → All IsParamWithin ps → params_size ps < 2 ^ 32 → AreTypesIn R NESTING ts
+  values_in : {ps : List SParam} {fs : List RawFnType} {ts : List RawTy} → AreParameters G T ps fs ts → All IsParamWithin ps →
+      params_size ps < 2 ^ 32 → AreTypesIn R NESTING ts
   values_in AreParameters.none within small = AreTypesIn.no_types
   values_in (AreParameters.function {p = p} {ps = ps} kind is rest) within small =
       values_in rest (All-tail IsParamWithin p ps within) (omega (arith, params_size-cons p ps))
@@ -114,7 +119,8 @@ module _ (G : Globals) (T : TypeLocals) (R : Range) (datatypes : length G.dataty
       (fitting_type G T R datatypes tparams NESTING is (subst IsParamKindWithin kind (All-head IsParamWithin p ps within)) (omega arith))
       (values_in rest (All-tail IsParamWithin p ps within) (omega arith))
 
-  parameters_in : {ps : List SParam} {fs : List RawFnType} {ts : List RawTy} → AreParameters G T ps fs ts → All IsParamWithin ps → params_size ps < 2 ^ 32 → AreParametersIn R fs ts
+  parameters_in : {ps : List SParam} {fs : List RawFnType} {ts : List RawTy} → AreParameters G T ps fs ts → All IsParamWithin ps →
+      params_size ps < 2 ^ 32 → AreParametersIn R fs ts
   parameters_in {ps} are within small =
       let few = length-le-params_size ps in
       let count = parameters_count are in
@@ -132,7 +138,8 @@ record IsLonger (L M : Locals) (funs types : ℕ) : Type 0 where
   values : M.values ≡ L.values + types
   names : length M.names ≡ length L.names + funs + types
 
-longer_by_value : (L K M : Locals) (name : Name) (funs types : ℕ) → K ≡ record L { names = L.names ++ name.text ∷ []; values = L.values + 1 } → IsLonger K M funs types → IsLonger L M funs (types + 1)
+longer_by_value : (L K M : Locals) (name : Name) (funs types : ℕ) → K ≡ record L { names = L.names ++ name.text ∷ []; values = L.values + 1 } →
+    IsLonger K M funs types → IsLonger L M funs (types + 1)
 longer_by_value L K M name funs types is longer =
     let count : length K.names ≡ length L.names + 1 = ap (λ (x : Locals). length x.names) is ∙ length-append L.names (name.text ∷ []) in
     let functions : K.functions ≡ L.functions = ap (λ (x : Locals). x.functions) is in
@@ -144,7 +151,8 @@ longer_by_value L K M name funs types is longer =
       names = omega (arith, longer.names);
     }
 
-longer_by_function : (L K M : Locals) (name : Name) (funs types : ℕ) → K ≡ record L { names = L.names ++ name.text ∷ []; functions = L.functions + 1 } → IsLonger K M funs types → IsLonger L M (funs + 1) types
+longer_by_function : (L K M : Locals) (name : Name) (funs types : ℕ) →
+    K ≡ record L { names = L.names ++ name.text ∷ []; functions = L.functions + 1 } → IsLonger K M funs types → IsLonger L M (funs + 1) types
 longer_by_function L K M name funs types is longer =
     let count : length K.names ≡ length L.names + 1 = ap (λ (x : Locals). length x.names) is ∙ length-append L.names (name.text ∷ []) in
     let functions : K.functions ≡ L.functions + 1 = ap (λ (x : Locals). x.functions) is in
@@ -159,17 +167,22 @@ longer_by_function L K M name funs types is longer =
 counted : (L M : Locals) (a b c d : ℕ) → a ≡ c → b ≡ d → IsLonger L M a b → IsLonger L M c d
 counted L M a b c d p q longer = subst (λ n. IsLonger L M n d) p (subst (IsLonger L M a) q longer)
 
-after_parameters : {G : Globals} {T : TypeLocals} {ps : List SParam} {fs : List RawFnType} {ts : List RawTy} (L : Locals) → AreParameters G T ps fs ts → IsLonger L (fold with_parameter L ps) (length fs) (length ts)
+after_parameters : {G : Globals} {T : TypeLocals} {ps : List SParam} {fs : List RawFnType} {ts : List RawTy} (L : Locals) →
+    AreParameters G T ps fs ts → IsLonger L (fold with_parameter L ps) (length fs) (length ts)
 after_parameters L AreParameters.none = record { same = refl; functions = omega arith; values = omega arith; names = omega arith }
 after_parameters L (AreParameters.value {p = p} {ps = ps} {t = t} {fs = fs} {ts = ts} kind is rest) =
     counted L (fold with_parameter (with_parameter L p) ps) (length fs) (length ts + 1) (length fs) (length (t ∷ ts)) refl (omega arith)
-    (longer_by_value L (with_parameter L p) (fold with_parameter (with_parameter L p) ps) p.name (length fs) (length ts) (ap (with_parameter_of L p.name) kind) (after_parameters (with_parameter L p) rest))
+    (longer_by_value L (with_parameter L p) (fold with_parameter (with_parameter L p) ps) p.name (length fs) (length ts)
+    (ap (with_parameter_of L p.name) kind) (after_parameters (with_parameter L p) rest))
 after_parameters L (AreParameters.function {p = p} {ps = ps} {g = g} {fs = fs} {ts = ts} kind is rest) =
     counted L (fold with_parameter (with_parameter L p) ps) (length fs + 1) (length ts) (length (g ∷ fs)) (length ts) (omega arith) refl
-    (longer_by_function L (with_parameter L p) (fold with_parameter (with_parameter L p) ps) p.name (length fs) (length ts) (ap (with_parameter_of L p.name) kind) (after_parameters (with_parameter L p) rest))
+    (longer_by_function L (with_parameter L p) (fold with_parameter (with_parameter L p) ps) p.name (length fs) (length ts)
+    (ap (with_parameter_of L p.name) kind) (after_parameters (with_parameter L p) rest))
 
 -- what is local after the parameters may be named
-locals_in : {G : Globals} {T : TypeLocals} {fs : List RawFnType} {ts : List RawTy} (R : Range) (tparams : List Name) (ps : List SParam) → AreParameters G T ps fs ts → length tparams ≤ R.tparams → length fs ≤ R.functions → length ts ≤ R.values → AreLocalsIn R 0 (parameter_locals tparams ps)
+locals_in : {G : Globals} {T : TypeLocals} {fs : List RawFnType} {ts : List RawTy} (R : Range) (tparams : List Name) (ps : List SParam) →
+    AreParameters G T ps fs ts → length tparams ≤ R.tparams → length fs ≤ R.functions → length ts ≤ R.values →
+    AreLocalsIn R 0 (parameter_locals tparams ps)
 locals_in {fs = fs} {ts = ts} R tparams ps are few_types few_functions few_values =
     let longer = after_parameters (first_locals tparams) are in
     let types : length (parameter_locals tparams ps).types.parameters ≡ length tparams = ap (λ (T : TypeLocals). length T.parameters) longer.same ∙ length-map tparams (λ (n : Name). n.text) in
@@ -214,7 +227,8 @@ meaning_weaker a b le meaning.Lemma is = tt
 meaning_weaker a b le meaning.Replica is = tt
 
 -- what is declared may be named
-globals_in : (G : Globals) (P Q : RawProgram) (R : Range) → Agrees G P → IsFront P.datatypes Q.datatypes → length P.datatypes ≤ R.datatypes → length P.defs ≤ R.defs → AreGlobalsIn Q R G
+globals_in : (G : Globals) (P Q : RawProgram) (R : Range) → Agrees G P → IsFront P.datatypes Q.datatypes → length P.datatypes ≤ R.datatypes →
+    length P.defs ≤ R.defs → AreGlobalsIn Q R G
 globals_in G P Q R agrees front types defs = record {
   datatypes = omega (arith, agrees.types);
   constructors = All-weaker (IsDeclared P) (IsNamedIn Q R) (λ con is. record {
@@ -227,7 +241,8 @@ globals_in G P Q R agrees front types defs = record {
 }
 
 -- one name more
-lower_in : (G : Globals) (Q : RawProgram) (R : Range) → AreGlobalsIn Q R G → (name : Name) (m : Meaning) → IsMeaningIn R.defs m → AreGlobalsIn Q R (with_lower G name m)
+lower_in : (G : Globals) (Q : RawProgram) (R : Range) → AreGlobalsIn Q R G → (name : Name) (m : Meaning) → IsMeaningIn R.defs m →
+    AreGlobalsIn Q R (with_lower G name m)
 lower_in G Q R globals name m is = record {
   datatypes = globals.datatypes;
   constructors = globals.constructors;
@@ -244,7 +259,8 @@ module _ (H : Globals) (Q : RawProgram) (R : Range) (globals : AreGlobalsIn Q R 
     right = term_in e.right is.right is.is_right within.right (omega arith);
   })
 
-  equations_in : {es : List SEquation} {rs : List RawEquation} → AreEquations H L es rs → All IsEquationWithin es → equations_size es < 2 ^ 32 → All (IsEquationIn Q R) rs
+  equations_in : {es : List SEquation} {rs : List RawEquation} → AreEquations H L es rs → All IsEquationWithin es → equations_size es < 2 ^ 32 →
+      All (IsEquationIn Q R) rs
   equations_in AreEquations.none within small = All-nil (IsEquationIn Q R)
   equations_in (AreEquations.more {e = e} {es = es} {r = r} {rs = rs} is rest) within small =
       let sizes = equations_size-cons e es in
@@ -255,7 +271,8 @@ module _ (H : Globals) (Q : RawProgram) (R : Range) (globals : AreGlobalsIn Q R 
   function_in : (s : SFun) (f : RawFun) → IsFunction H L s f → IsFunWithin s → fun_size s < 2 ^ 32 → IsFunIn R R.defs NESTING f
   function_in s f is within small = fitting_function H Q R globals NESTING 0 L locals s f is (types_within s.args within) (omega arith)
 
-  named_functions_in : {ss : List SFun} {fs : List RawFun} → AreFunctions H L ss fs → All IsFunWithin ss → funs_size ss < 2 ^ 32 → All (IsFunIn R R.defs NESTING) fs
+  named_functions_in : {ss : List SFun} {fs : List RawFun} → AreFunctions H L ss fs → All IsFunWithin ss → funs_size ss < 2 ^ 32 →
+      All (IsFunIn R R.defs NESTING) fs
   named_functions_in AreFunctions.none within small = All-nil (IsFunIn R R.defs NESTING)
   named_functions_in (AreFunctions.more {f = s} {fs = ss} {g = f} {gs = fs} is rest) within small =
       let sizes = funs_size-cons s ss in
@@ -280,9 +297,9 @@ module _ (G : Globals) (P Q : RawProgram) (agrees : Agrees G P) (front : IsFront
         some = omega arith;
         few = omega arith;
         cons = constructors_in (with_datatype G d.name) (data_locals (length G.datatypes) d.tparams) (type_range (length P.datatypes + 1) (length d.tparams))
-          (omega (arith, agrees.types, length-append G.datatypes (d.name.text ∷ [])))
-          (omega (arith, length-map d.tparams (λ (n : Name). n.text)))
-          is.are_constructors within (omega arith);
+            (omega (arith, agrees.types, length-append G.datatypes (d.name.text ∷ [])))
+            (omega (arith, length-map d.tparams (λ (n : Name). n.text)))
+            is.are_constructors within (omega arith);
       })
 
   -- a definition
@@ -294,11 +311,14 @@ module _ (G : Globals) (P Q : RawProgram) (agrees : Agrees G P) (front : IsFront
       let types : length G.datatypes ≤ S.datatypes = omega (arith, agrees.types) in
       let tparams : length (texts d.tparams) ≤ S.tparams = omega (arith, length-map d.tparams (λ (n : Name). n.text)) in
       let locals : AreLocalsIn R 0 (parameter_locals d.tparams d.params) = locals_in R d.tparams d.params is.are_parameters (omega arith) (omega arith) (omega arith) in
-      let globals : AreGlobalsIn Q R (with_definition G d) = lower_in G Q R (globals_in G P Q R agrees front (omega arith) (omega arith)) d.name (meaning.Definition (length G.claimed) (function_count d.params)) (omega (arith, agrees.definitions)) in
+      let before : AreGlobalsIn Q R G = globals_in G P Q R agrees front (omega arith) (omega arith) in
+      let own = meaning.Definition (length G.claimed) (function_count d.params) in
+      let globals : AreGlobalsIn Q R (with_definition G d) = lower_in G Q R before d.name own (omega (arith, agrees.definitions)) in
+      let in_body : AreLocalsIn R 0 (body_locals (length G.claimed) d) = record { tparams = locals.tparams; functions = locals.functions; values = locals.values; names = locals.names } in
       subst (IsDefIn Q (counts_of P)) (sym is.is) (record {
         parameters = parameters_in G (type_locals d.tparams) S types tparams is.are_parameters within.params (omega arith);
         result = fitting_type G (type_locals d.tparams) S types tparams NESTING is.is_result within.result (omega arith);
-        body = term_in (with_definition G d) Q R globals (body_locals (length G.claimed) d) (record { tparams = locals.tparams; functions = locals.functions; values = locals.values; names = locals.names }) d.body is.body is.is_body within.body (omega arith);
+        body = term_in (with_definition G d) Q R globals (body_locals (length G.claimed) d) in_body d.body is.body is.is_body within.body (omega arith);
         few_props = omega arith;
       })
 

@@ -1,6 +1,6 @@
 -- A numbered program is as the check of types asks for it.
-use Rattle.std.proofs.Common.{◌≡◌, ℕ, zero, suc, ◌+◌, ◌<◌, ◌≤◌, ◌^◌, List, [], ◌∷◌, ◌++◌, map, sum, length, Option, Some, None, refl, sym, ap, ◌∙◌, subst, arith, length-append, append-nil, append_assoc}
-use Rattle.std.specs.Prelude.{All, codes}
+use Rattle.std.proofs.Common.{◌≡◌, ℕ, zero, suc, ◌+◌, ◌<◌, ◌≤◌, ◌^◌, List, [], ◌∷◌, ◌++◌, map, sum, length, Option, Some, None, Result, Ok, Err, refl, sym, ap, ◌∙◌, subst, arith, length-append, append-nil, append_assoc}
+use Rattle.std.specs.Prelude.{IfOk, All, codes}
 use Rattle.std.specs.List.{slice_get}
 use Rattle.std.proofs.lemmas.List.{length-map}
 use Rattle.std.proofs.lemmas.List.Sums.{sum-map, sum_by_push}
@@ -12,29 +12,26 @@ use Rattle.px_terms.specs.declared.raw.Decl.TheVariants as decl
 use Rattle.px_terms.specs.declared.raw.RawData.{RawData}
 use Rattle.px_terms.specs.declared.raw.RawDef.{RawDef}
 use Rattle.px_terms.specs.declared.raw.RawClaim.{RawClaim}
-use Rattle.px_terms.specs.declared.raw.RawLemma.{RawLemma}
-use Rattle.px_terms.specs.declared.raw.RawReplica.{RawReplica}
 use Rattle.px_terms.specs.declared.raw.RawProgram.{RawProgram}
 use Rattle.px_parser.specs.declared.surface.SCon.{SCon}
-use Rattle.px_parser.specs.declared.surface.SData.{SData}
-use Rattle.px_parser.specs.declared.surface.SDef.{SDef}
-use Rattle.px_parser.specs.declared.surface.SClaim.{SClaim}
-use Rattle.px_parser.specs.declared.surface.SLemma.{SLemma}
-use Rattle.px_parser.specs.declared.surface.SReplica.{SReplica}
 use Rattle.px_parser.specs.declared.surface.Item.{Item}
 use Rattle.px_parser.specs.declared.surface.Item.TheVariants as items
 use Rattle.px_parser.specs.declared.surface.Surface.{Surface}
 use Rattle.px_parser.specs.Sizes.{item_size, items_size, surface_size, IsItemWithin, IsWithinNesting}
 use Rattle.px_parser.specs.SizeEquations.{items_size-cons}
 use Rattle.px_parser.specs.Filled.{IsFilledItem, IsFilled}
+use Rattle.px_scope.specs.declared.ends.ScopeEnd.{ScopeEnd}
 use Rattle.px_scope.specs.declared.globals.Constructor.{Constructor}
 use Rattle.px_scope.specs.declared.globals.Meaning.{Meaning}
 use Rattle.px_scope.specs.declared.globals.Meaning.TheVariants as meaning
 use Rattle.px_scope.specs.declared.globals.Globals.{Globals}
 use Rattle.px_scope.specs.Standing.{meaning_of, built_in}
+use Rattle.px_scope.specs.Uses.{first_broken}
 use Rattle.px_scope.specs.Declaring.{props_of, with_datatype, with_constructor, with_constructors, function_count, with_claims_of, after}
-use Rattle.px_scope.specs.Programs.{constructor_names, IsData, IsDefinition, IsClaim, IsLemma, IsReplica, IsNext, AreNext, raw_bool, start, IsNumbering}
-use Rattle.px_scope.specs.Fitting.{Counts, IsDataIn, IsDefIn, IsClaimIn, IsLemmaIn, IsReplicaIn, AreAll, AreInOrder, HasNames, def_props, claim_props, obligation_count, bool_alone, IsFitting}
+use Rattle.px_scope.specs.ItemUses.{text_uses}
+use Rattle.px_scope.specs.Programs.{constructor_names, IsNext, AreNext, raw_bool, start, IsNumbering}
+use Rattle.px_scope.specs.Fitting.{AreInOrder, HasNames, def_props, claim_props, obligation_count, bool_alone, IsFitting}
+use Rattle.px_scope.specs.Answers.{Resolves}
 use Rattle.px_scope.proofs.FittingTerms.{IsMeaningIn}
 use Rattle.px_scope.proofs.FittingDeclarations.{constructors_count, IsDeclared, Agrees, IsFront, counts_of, meaning_weaker, data_in, def_in, claim_in, lemma_in, replica_in}
 use Rattle.px_scope.proofs.ProgramSteps.{same_types, same_claims, claims_types, claims_count}
@@ -72,11 +69,16 @@ extends_again P Q R p q = record {
 
 -- one declaration more adds at the end
 next_extends : (G : Globals) (P : RawProgram) {item : Item} {Q : RawProgram} → IsNext G P item Q → Extends P Q
-next_extends G P (IsNext.datatype {raw = raw} is e) = subst (Extends P) (sym e) (record { datatypes = front_push P.datatypes raw; defs = λ n x found. found; claims = λ n x found. found; lemmas = λ n x found. found; replicas = λ n x found. found })
-next_extends G P (IsNext.definition {raw = raw} is e) = subst (Extends P) (sym e) (record { datatypes = λ n x found. found; defs = front_push P.defs raw; claims = λ n x found. found; lemmas = λ n x found. found; replicas = λ n x found. found })
-next_extends G P (IsNext.claim {raw = raw} is e) = subst (Extends P) (sym e) (record { datatypes = λ n x found. found; defs = λ n x found. found; claims = front_push P.claims raw; lemmas = λ n x found. found; replicas = λ n x found. found })
-next_extends G P (IsNext.lemma {raw = raw} is e) = subst (Extends P) (sym e) (record { datatypes = λ n x found. found; defs = λ n x found. found; claims = λ n x found. found; lemmas = front_push P.lemmas raw; replicas = λ n x found. found })
-next_extends G P (IsNext.replica {raw = raw} is e) = subst (Extends P) (sym e) (record { datatypes = λ n x found. found; defs = λ n x found. found; claims = λ n x found. found; lemmas = λ n x found. found; replicas = front_push P.replicas raw })
+next_extends G P (IsNext.datatype {raw = raw} is e) =
+    subst (Extends P) (sym e) (record { datatypes = front_push P.datatypes raw; defs = λ n x found. found; claims = λ n x found. found; lemmas = λ n x found. found; replicas = λ n x found. found })
+next_extends G P (IsNext.definition {raw = raw} is e) =
+    subst (Extends P) (sym e) (record { datatypes = λ n x found. found; defs = front_push P.defs raw; claims = λ n x found. found; lemmas = λ n x found. found; replicas = λ n x found. found })
+next_extends G P (IsNext.claim {raw = raw} is e) =
+    subst (Extends P) (sym e) (record { datatypes = λ n x found. found; defs = λ n x found. found; claims = front_push P.claims raw; lemmas = λ n x found. found; replicas = λ n x found. found })
+next_extends G P (IsNext.lemma {raw = raw} is e) =
+    subst (Extends P) (sym e) (record { datatypes = λ n x found. found; defs = λ n x found. found; claims = λ n x found. found; lemmas = front_push P.lemmas raw; replicas = λ n x found. found })
+next_extends G P (IsNext.replica {raw = raw} is e) =
+    subst (Extends P) (sym e) (record { datatypes = λ n x found. found; defs = λ n x found. found; claims = λ n x found. found; lemmas = λ n x found. found; replicas = front_push P.replicas raw })
 
 -- so do declarations
 all_extend : {G : Globals} {P : RawProgram} {text : List Item} {Q : RawProgram} → AreNext G P text Q → Extends P Q
@@ -84,7 +86,8 @@ all_extend {P = P} AreNext.none = extends_itself P
 all_extend {G = G} {P = P} {Q = R} (AreNext.more {Q = Q} first rest) = extends_again P Q R (next_extends G P first) (all_extend rest)
 
 -- the constructors of one datatype more
-added_constructors : (F : Constructor → Type 0) (own number : ℕ) (G : Globals) (cons : List SCon) → All F G.constructors → ((n : ℕ) → n < number + length cons → F (record { datatype = own; number = n })) → All F (with_constructors own number G cons).constructors
+added_constructors : (F : Constructor → Type 0) (own number : ℕ) (G : Globals) (cons : List SCon) → All F G.constructors →
+    ((n : ℕ) → n < number + length cons → F (record { datatype = own; number = n })) → All F (with_constructors own number G cons).constructors
 added_constructors F own number G [] all new = all
 added_constructors F own number G (con ∷ cons) all new =
     added_constructors F own (number + 1) (with_constructor own number G con) cons
@@ -128,7 +131,8 @@ agrees_next G P agrees (IsNext.datatype {d = d} {raw = raw} {result = Q} is e) =
     record {
       types = ap length (same_types own 0 H d.cons) ∙ omega (arith, agrees.types, ap length all, length-append G.datatypes (d.name.text ∷ []), length-append P.datatypes (raw ∷ []));
       definitions = ap length (same_claims own 0 H d.cons) ∙ agrees.definitions ∙ ap length (sym defs);
-      constructors = added_constructors (IsDeclared Q) own 0 H d.cons (still_declared P Q front G.constructors agrees.constructors) (λ n below. record { declared = raw; stands = stands; has = omega arith });
+      constructors = added_constructors (IsDeclared Q) own 0 H d.cons (still_declared P Q front G.constructors agrees.constructors)
+          (λ n below. record { declared = raw; stands = stands; has = omega arith });
       meanings = rw (same_meanings own 0 H d.cons, defs) agrees.meanings;
     }
 agrees_next G P agrees (IsNext.definition {d = d} {raw = raw} {result = Q} is e) =
@@ -142,8 +146,8 @@ agrees_next G P agrees (IsNext.definition {d = d} {raw = raw} {result = Q} is e)
       definitions = omega (arith, agrees.definitions, length-append G.claimed (props_of d.props ∷ []));
       constructors = still_declared P Q front G.constructors agrees.constructors;
       meanings = All-push (IsMeaningIn (length Q.defs)) G.meanings m
-        (All-weaker (IsMeaningIn (length P.defs)) (IsMeaningIn (length Q.defs)) (meaning_weaker (length P.defs) (length Q.defs) (omega arith)) G.meanings agrees.meanings)
-        (omega (arith, agrees.definitions));
+          (All-weaker (IsMeaningIn (length P.defs)) (IsMeaningIn (length Q.defs)) (meaning_weaker (length P.defs) (length Q.defs) (omega arith)) G.meanings agrees.meanings)
+          (omega (arith, agrees.definitions));
     }
 agrees_next G P agrees (IsNext.claim {c = c} {raw = raw} {result = Q} is e) =
     let datatypes : Q.datatypes ≡ P.datatypes = ap (λ (x : RawProgram). x.datatypes) e in
@@ -184,8 +188,8 @@ agrees_first = record {
   types = refl;
   definitions = refl;
   constructors = All-cons (IsDeclared start) (record { datatype = 0; number = 0 }) (record { datatype = 0; number = 1 } ∷ [])
-    (record { declared = raw_bool; stands = refl; has = omega arith })
-    (All-cons (IsDeclared start) (record { datatype = 0; number = 1 }) [] (record { declared = raw_bool; stands = refl; has = omega arith }) (All-nil (IsDeclared start)));
+      (record { declared = raw_bool; stands = refl; has = omega arith })
+      (All-cons (IsDeclared start) (record { datatype = 0; number = 1 }) [] (record { declared = raw_bool; stands = refl; has = omega arith }) (All-nil (IsDeclared start)));
   meanings = All-cons (IsMeaningIn 0) meaning.Wle (meaning.Weq ∷ []) tt (All-cons (IsMeaningIn 0) meaning.Weq [] tt (All-nil (IsMeaningIn 0)));
 }
 
@@ -202,7 +206,8 @@ order_next : (before between after rest : List Decl) (d : Decl) → between ≡ 
 order_next before between after rest d one all = all ∙ ap (λ ds. ds ++ rest) one ∙ append_assoc before (d ∷ []) rest
 
 -- the order from one declaration on
-ordered_next : (G : Globals) (P Q : RawProgram) {item : Item} {M : RawProgram} → Agrees G P → IsNext G P item M → Extends M Q → IsItemWithin item → IsFilledItem item → item_size item < 2 ^ 32 → IsOrdered M Q → IsOrdered P Q
+ordered_next : (G : Globals) (P Q : RawProgram) {item : Item} {M : RawProgram} → Agrees G P → IsNext G P item M → Extends M Q → IsItemWithin item →
+    IsFilledItem item → item_size item < 2 ^ 32 → IsOrdered M Q → IsOrdered P Q
 ordered_next G P Q agrees (IsNext.datatype {d = d} {raw = raw} {result = M} is e) extends within filled small ordered =
     let front = (extends_again P M Q (next_extends G P (IsNext.datatype is e)) extends).datatypes in
     let all : M.datatypes ≡ P.datatypes ++ raw ∷ [] = ap (λ (x : RawProgram). x.datatypes) e in
@@ -210,7 +215,10 @@ ordered_next G P Q agrees (IsNext.datatype {d = d} {raw = raw} {result = M} is e
     record {
       rest = decl.Datatype (length P.datatypes) ∷ ordered.rest;
       order = order_next P.order M.order Q.order ordered.rest (decl.Datatype (length P.datatypes)) (ap (λ (x : RawProgram). x.order) e) ordered.order;
-      fits = AreInOrder.datatype refl (extends.datatypes (length P.datatypes) raw (rw all (end_of P.datatypes raw))) (data_in G P Q agrees front d raw is filled within small) (subst (λ C. AreInOrder Q C ordered.rest) counts ordered.fits);
+      fits = AreInOrder.datatype refl
+          (extends.datatypes (length P.datatypes) raw (rw all (end_of P.datatypes raw)))
+          (data_in G P Q agrees front d raw is filled within small)
+          (subst (λ C. AreInOrder Q C ordered.rest) counts ordered.fits);
     }
 ordered_next G P Q agrees (IsNext.definition {d = d} {raw = raw} {result = M} is e) extends within filled small ordered =
     let front = (extends_again P M Q (next_extends G P (IsNext.definition is e)) extends).datatypes in
@@ -219,7 +227,10 @@ ordered_next G P Q agrees (IsNext.definition {d = d} {raw = raw} {result = M} is
     record {
       rest = decl.Definition (length P.defs) ∷ ordered.rest;
       order = order_next P.order M.order Q.order ordered.rest (decl.Definition (length P.defs)) (ap (λ (x : RawProgram). x.order) e) ordered.order;
-      fits = AreInOrder.definition refl (extends.defs (length P.defs) raw (rw all (end_of P.defs raw))) (def_in G P Q agrees front d raw is within small) (subst (λ C. AreInOrder Q C ordered.rest) counts ordered.fits);
+      fits = AreInOrder.definition refl
+          (extends.defs (length P.defs) raw (rw all (end_of P.defs raw)))
+          (def_in G P Q agrees front d raw is within small)
+          (subst (λ C. AreInOrder Q C ordered.rest) counts ordered.fits);
     }
 ordered_next G P Q agrees (IsNext.claim {c = c} {raw = raw} {result = M} is e) extends within filled small ordered =
     let front = (extends_again P M Q (next_extends G P (IsNext.claim is e)) extends).datatypes in
@@ -228,7 +239,10 @@ ordered_next G P Q agrees (IsNext.claim {c = c} {raw = raw} {result = M} is e) e
     record {
       rest = decl.Claim (length P.claims) ∷ ordered.rest;
       order = order_next P.order M.order Q.order ordered.rest (decl.Claim (length P.claims)) (ap (λ (x : RawProgram). x.order) e) ordered.order;
-      fits = AreInOrder.claim refl (extends.claims (length P.claims) raw (rw all (end_of P.claims raw))) (claim_in G P Q agrees front c raw is small) (subst (λ C. AreInOrder Q C ordered.rest) counts ordered.fits);
+      fits = AreInOrder.claim refl
+          (extends.claims (length P.claims) raw (rw all (end_of P.claims raw)))
+          (claim_in G P Q agrees front c raw is small)
+          (subst (λ C. AreInOrder Q C ordered.rest) counts ordered.fits);
     }
 ordered_next G P Q agrees (IsNext.lemma {l = l} {raw = raw} {result = M} is e) extends within filled small ordered =
     let front = (extends_again P M Q (next_extends G P (IsNext.lemma is e)) extends).datatypes in
@@ -237,7 +251,10 @@ ordered_next G P Q agrees (IsNext.lemma {l = l} {raw = raw} {result = M} is e) e
     record {
       rest = decl.Lemma (length P.lemmas) ∷ ordered.rest;
       order = order_next P.order M.order Q.order ordered.rest (decl.Lemma (length P.lemmas)) (ap (λ (x : RawProgram). x.order) e) ordered.order;
-      fits = AreInOrder.lemma refl (extends.lemmas (length P.lemmas) raw (rw all (end_of P.lemmas raw))) (lemma_in G P Q agrees front l raw is within small) (subst (λ C. AreInOrder Q C ordered.rest) counts ordered.fits);
+      fits = AreInOrder.lemma refl
+          (extends.lemmas (length P.lemmas) raw (rw all (end_of P.lemmas raw)))
+          (lemma_in G P Q agrees front l raw is within small)
+          (subst (λ C. AreInOrder Q C ordered.rest) counts ordered.fits);
     }
 ordered_next G P Q agrees (IsNext.replica {r = r} {raw = raw} {result = M} is e) extends within filled small ordered =
     let front = (extends_again P M Q (next_extends G P (IsNext.replica is e)) extends).datatypes in
@@ -246,11 +263,15 @@ ordered_next G P Q agrees (IsNext.replica {r = r} {raw = raw} {result = M} is e)
     record {
       rest = decl.Replica (length P.replicas) ∷ ordered.rest;
       order = order_next P.order M.order Q.order ordered.rest (decl.Replica (length P.replicas)) (ap (λ (x : RawProgram). x.order) e) ordered.order;
-      fits = AreInOrder.replica refl (extends.replicas (length P.replicas) raw (rw all (end_of P.replicas raw))) (replica_in G P Q agrees front r raw is within small) (subst (λ C. AreInOrder Q C ordered.rest) counts ordered.fits);
+      fits = AreInOrder.replica refl
+          (extends.replicas (length P.replicas) raw (rw all (end_of P.replicas raw)))
+          (replica_in G P Q agrees front r raw is within small)
+          (subst (λ C. AreInOrder Q C ordered.rest) counts ordered.fits);
     }
 
 -- all declarations stand in order
-all_ordered : {G : Globals} {P : RawProgram} {text : List Item} {Q : RawProgram} → AreNext G P text Q → Agrees G P → All IsItemWithin text → All IsFilledItem text → items_size text < 2 ^ 32 → IsOrdered P Q
+all_ordered : {G : Globals} {P : RawProgram} {text : List Item} {Q : RawProgram} → AreNext G P text Q → Agrees G P → All IsItemWithin text →
+    All IsFilledItem text → items_size text < 2 ^ 32 → IsOrdered P Q
 all_ordered {P = P} AreNext.none agrees within filled small = record {
   rest = [];
   order = sym (append-nil P.order);
@@ -296,18 +317,35 @@ named_next G P named (IsNext.datatype {d = d} {raw = raw} is e) =
       replicas = named.replicas;
     })
 named_next G P named (IsNext.definition {d = d} {raw = raw} is e) = subst HasNames (sym e) (record {
-  datatypes = named.datatypes; cons = named.cons; constructors = named.constructors; lemmas = named.lemmas; replicas = named.replicas;
+  datatypes = named.datatypes;
+  cons = named.cons;
+  constructors = named.constructors;
+  lemmas = named.lemmas;
+  replicas = named.replicas;
   defs = both_longer P.names.defs P.defs d.name.text raw named.defs;
 })
 named_next G P named (IsNext.claim {c = c} {raw = raw} is e) = subst HasNames (sym e) (record {
-  datatypes = named.datatypes; cons = named.cons; constructors = named.constructors; defs = named.defs; lemmas = named.lemmas; replicas = named.replicas;
+  datatypes = named.datatypes;
+  cons = named.cons;
+  constructors = named.constructors;
+  defs = named.defs;
+  lemmas = named.lemmas;
+  replicas = named.replicas;
 })
 named_next G P named (IsNext.lemma {l = l} {raw = raw} is e) = subst HasNames (sym e) (record {
-  datatypes = named.datatypes; cons = named.cons; constructors = named.constructors; defs = named.defs; replicas = named.replicas;
+  datatypes = named.datatypes;
+  cons = named.cons;
+  constructors = named.constructors;
+  defs = named.defs;
+  replicas = named.replicas;
   lemmas = both_longer P.names.lemmas P.lemmas l.name.text raw named.lemmas;
 })
 named_next G P named (IsNext.replica {r = r} {raw = raw} is e) = subst HasNames (sym e) (record {
-  datatypes = named.datatypes; cons = named.cons; constructors = named.constructors; defs = named.defs; lemmas = named.lemmas;
+  datatypes = named.datatypes;
+  cons = named.cons;
+  constructors = named.constructors;
+  defs = named.defs;
+  lemmas = named.lemmas;
   replicas = both_longer P.names.replicas P.replicas r.name.text raw named.replicas;
 })
 
@@ -349,12 +387,14 @@ counted_next G P (IsNext.lemma {l = l} {raw = raw} is e) =
 counted_next G P (IsNext.replica {r = r} is e) = subst (λ (x : RawProgram). obligation_count x ≤ obligation_count P + item_size (items.Replica r)) (sym e) (omega arith)
 
 -- all declarations have no more obligations than parts
-all_counted : {G : Globals} {P : RawProgram} {text : List Item} {Q : RawProgram} → AreNext G P text Q → obligation_count Q ≤ obligation_count P + items_size text
+all_counted : {G : Globals} {P : RawProgram} {text : List Item} {Q : RawProgram} → AreNext G P text Q →
+    obligation_count Q ≤ obligation_count P + items_size text
 all_counted AreNext.none = omega arith
 all_counted {G = G} {P = P} (AreNext.more {item = item} {text = text} first rest) = omega (arith, counted_next G P first, all_counted rest, items_size-cons item text)
 
 -- the numbered program of a surface within the limits is as the check of types asks for it
-pub fitting_program : (surface : Surface) (P : RawProgram) → surface_size surface ≤ PROGRAM_BYTES → IsWithinNesting surface → IsFilled surface → IsNumbering surface P → IsFitting P
+pub fitting_program : (surface : Surface) (P : RawProgram) → surface_size surface ≤ PROGRAM_BYTES → IsWithinNesting surface → IsFilled surface →
+    IsNumbering surface P → IsFitting P
 fitting_program surface P size within filled numbering =
     let small : items_size surface.items < 2 ^ 32 = omega arith in
     let ordered = all_ordered numbering.numbered agrees_first within filled small in
@@ -365,3 +405,13 @@ fitting_program surface P size within filled numbering =
       named = all_named numbering.numbered named_first;
       few = omega arith;
     }
+
+-- so is what is answered
+pub fitting_is : (surface : Surface) (text : List Item) (r : Result RawProgram ScopeEnd) → text ≡ surface.items →
+    Resolves (text_uses text) (AreNext built_in start text) r → surface_size surface ≤ PROGRAM_BYTES → IsWithinNesting surface → IsFilled surface →
+    IfOk r IsFitting
+fitting_is surface text (Ok P) same (fine, are) size within filled = fitting_program surface P size within filled (record {
+  lawful = ap (λ xs. first_broken (text_uses xs)) (sym same) ∙ fine;
+  numbered = subst (λ xs. AreNext built_in start xs P) same are;
+})
+fitting_is surface text (Err end) same fails size within filled = tt

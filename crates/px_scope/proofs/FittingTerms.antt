@@ -1,5 +1,5 @@
 -- A term that is numbered names what may be named at its place.
-use Rattle.std.proofs.Common.{◌≡◌, ℕ, zero, suc, ◌+◌, ◌-◌, ◌<◌, ◌≤◌, ◌^◌, Bool, true, false, cond, List, [], ◌∷◌, ◌++◌, map, sum, take, drop, length, Option, Some, None, refl, sym, ap, ◌∙◌, subst, arith, length-append}
+use Rattle.std.proofs.Common.{◌≡◌, ℕ, zero, suc, ◌+◌, ◌-◌, ◌<◌, ◌≤◌, ◌^◌, Bool, true, false, cond, List, [], ◌∷◌, map, take, drop, length, Option, Some, None, refl, sym, ap, ◌∙◌, subst, arith, length-append}
 use Rattle.std.specs.Prelude.{nat_lt, All}
 use Rattle.std.specs.Option.{option_map, option_and_then}
 use Rattle.std.specs.List.{slice_get}
@@ -7,7 +7,6 @@ use Rattle.std.proofs.lemmas.Bool.{ltb-true, ltb-false}
 use Rattle.std.proofs.lemmas.Option.{slice_get_within, get_or_from_slice_get}
 use Rattle.std.proofs.lemmas.List.{length-map}
 use Rattle.std.proofs.lemmas.List.Elements.{All-nil, All-cons, All-get_or}
-use Rattle.px_terms.specs.Types.{largest}
 use Rattle.px_terms.specs.declared.types.Head.{Head}
 use Rattle.px_terms.specs.declared.types.Head.TheVariants as heads
 use Rattle.px_terms.specs.declared.raw.RawFun.{RawFun}
@@ -38,8 +37,8 @@ use Rattle.px_scope.specs.declared.locals.Locals.{Locals}
 use Rattle.px_scope.specs.Names.{number, number_of}
 use Rattle.px_scope.specs.Standing.{constructor_of, meaning_of, local_at, local_of, head_at, head_of, function_places}
 use Rattle.px_scope.specs.Uses.{bind}
-use Rattle.px_scope.specs.Numbers.{raw_fun, raw_term, raw_arm, AreTypes, IsArgument, named, AreArguments, none, more, IsTermLayer, AreTerms, AreArms, IsFunction, AreFunctions}
-use Rattle.px_scope.specs.Fitting.{Range, IsShort, IsConstructorIn, IsHeadIn, IsFunIn, IsTermIn, AreTermsIn, AreArmsIn}
+use Rattle.px_scope.specs.Numbers.{raw_fun, raw_term, raw_arm, AreTypes, IsArgument, named, AreArguments, none, more, IsTermLayer, AreTerms, AreArms, IsFunction}
+use Rattle.px_scope.specs.Fitting.{Range, IsShort, IsConstructorIn, IsHeadIn, IsFunIn, IsArgumentIn, IsTermIn, AreTermsIn, AreArmsIn}
 use Rattle.px_scope.proofs.FittingTypes.{number_is, number_within, types_few, fitting_types}
 
 -- the meaning is no definition, or one that may be named
@@ -79,22 +78,27 @@ IsLocalIn R bound (Value n) = n < R.values
 IsLocalIn R bound (Pattern n) = n < bound
 
 -- the local of a number
-local_in : (R : Range) (bound : ℕ) (L : Locals) → AreLocalsIn R bound L → (n : ℕ) → n < length L.names → (l : Local) → local_at L n ≡ Some l → IsLocalIn R bound l
+local_in : (R : Range) (bound : ℕ) (L : Locals) → AreLocalsIn R bound L → (n : ℕ) → n < length L.names → (l : Local) → local_at L n ≡ Some l →
+    IsLocalIn R bound l
 local_in R bound L locals n within l is = first (nat_lt n L.functions) refl is
   where
-    third : L.functions ≤ n → L.values ≤ n - L.functions → (place : Option ℕ) → number (length L.names - (n + 1)) ≡ place → option_map Pattern place ≡ Some l → IsLocalIn R bound l
+    third : L.functions ≤ n → L.values ≤ n - L.functions → (place : Option ℕ) → number (length L.names - (n + 1)) ≡ place →
+        option_map Pattern place ≡ Some l → IsLocalIn R bound l
     third functions values None found is = absurd cc
     third functions values (Some k) found is =
         let same : Pattern k ≡ l = cc in
         subst (IsLocalIn R bound) same (omega (arith, number_is (length L.names - (n + 1)) k found, locals.names))
 
-    second : L.functions ≤ n → (b : Bool) → nat_lt (n - L.functions) L.values ≡ b → cond b (Some (Value (n - L.functions))) (option_map Pattern (number (length L.names - (n + 1)))) ≡ Some l → IsLocalIn R bound l
+    second : L.functions ≤ n → (b : Bool) → nat_lt (n - L.functions) L.values ≡ b →
+        cond b (Some (Value (n - L.functions))) (option_map Pattern (number (length L.names - (n + 1)))) ≡ Some l → IsLocalIn R bound l
     second functions true test is =
         let same : Value (n - L.functions) ≡ l = cc in
         subst (IsLocalIn R bound) same (omega (arith, ltb-true (n - L.functions) L.values test, locals.values))
     second functions false test is = third functions (ltb-false (n - L.functions) L.values test) (number (length L.names - (n + 1))) refl is
 
-    first : (b : Bool) → nat_lt n L.functions ≡ b → cond b (Some (Function n)) (cond (nat_lt (n - L.functions) L.values) (Some (Value (n - L.functions))) (option_map Pattern (number (length L.names - (n + 1))))) ≡ Some l → IsLocalIn R bound l
+    first : (b : Bool) → nat_lt n L.functions ≡ b →
+        cond b (Some (Function n)) (cond (nat_lt (n - L.functions) L.values) (Some (Value (n - L.functions))) (option_map Pattern (number (length L.names - (n + 1))))) ≡ Some l →
+        IsLocalIn R bound l
     first true test is =
         let same : Function n ≡ l = cc in
         subst (IsLocalIn R bound) same (omega (arith, ltb-true n L.functions test, locals.functions))
@@ -109,7 +113,9 @@ local_of_in R bound L locals name l is = at_place (number_of L.names name) refl 
     at_place (Some n) found is = local_in R bound L locals n (number_within L.names name n found) l is
 
 -- the function that a name stands for
-head_at_in : (R : Range) (bound : ℕ) (local : Option Local) (meaning : Option Meaning) (head : Head) → ((l : Local) → local ≡ Some l → IsLocalIn R bound l) → ((m : Meaning) → meaning ≡ Some m → IsMeaningIn R.defs m) → head_at local meaning ≡ Some head → IsHeadIn R R.defs head
+head_at_in : (R : Range) (bound : ℕ) (local : Option Local) (meaning : Option Meaning) (head : Head) →
+    ((l : Local) → local ≡ Some l → IsLocalIn R bound l) → ((m : Meaning) → meaning ≡ Some m → IsMeaningIn R.defs m) →
+    head_at local meaning ≡ Some head → IsHeadIn R R.defs head
 head_at_in R bound (Some (Function n)) meaning head locals meanings is = let same : heads.FnVar n ≡ head = cc in subst (IsHeadIn R R.defs) same (locals (Function n) refl)
 head_at_in R bound (Some (Value n)) meaning head locals meanings is = absurd cc
 head_at_in R bound (Some (Pattern n)) meaning head locals meanings is = absurd cc
@@ -169,7 +175,8 @@ arms_count AreArms.no_arms = refl
 arms_count (AreArms.more_arms stands body is rest) = let others = arms_count rest in omega arith
 
 -- what is bound in an arm is local in its body
-bound_in : (R : Range) (bound : ℕ) (L : Locals) (vars : List Name) → AreLocalsIn R bound L → AreLocalsIn R (bound + length (map (λ (v : Name). v.at) vars)) (bind L vars)
+bound_in : (R : Range) (bound : ℕ) (L : Locals) (vars : List Name) → AreLocalsIn R bound L →
+    AreLocalsIn R (bound + length (map (λ (v : Name). v.at) vars)) (bind L vars)
 bound_in R bound L vars locals = record {
   tparams = locals.tparams;
   functions = locals.functions;
@@ -188,7 +195,9 @@ module _ (G : Globals) (P : RawProgram) (R : Range) (globals : AreGlobalsIn P R 
   head_in bound L locals name head is = head_at_in R bound (local_of L name) (meaning_of G name) head (local_of_in R bound L locals name) (meaning_in name) is
 
   -- a function of this name, with types
-  fun_in : (most bound : ℕ) (L : Locals) → AreLocalsIn R bound L → (name : Name) (types : List SType) (head : Head) (ts : List _) (f : RawFun) → head_of G L name.text ≡ Some head → AreTypes G L.types types ts → types_depth types ≤ most → types_size types < 2 ^ 32 → f ≡ raw_fun name head ts → IsFunIn R R.defs most f
+  fun_in : (most bound : ℕ) (L : Locals) → AreLocalsIn R bound L → (name : Name) (types : List SType) (head : Head) (ts : List _) (f : RawFun) →
+      head_of G L name.text ≡ Some head → AreTypes G L.types types ts → types_depth types ≤ most → types_size types < 2 ^ 32 →
+      f ≡ raw_fun name head ts → IsFunIn R R.defs most f
   fun_in most bound L locals name types head ts f stands are deep small is =
       subst (IsFunIn R R.defs most) (sym is) (record {
         head = head_in bound L locals name.text head stands;
@@ -196,63 +205,79 @@ module _ (G : Globals) (P : RawProgram) (R : Range) (globals : AreGlobalsIn P R 
         types = fitting_types G L.types R globals.datatypes locals.tparams most are deep small;
       })
 
-  argument_in : (most bound : ℕ) {L : Locals} {y : SExprKind-F SExprKind SArm SExpr} {f : RawFun} → AreLocalsIn R bound L → IsArgument G L y f → layer_depth y ≤ most → layer_size y < 2 ^ 32 → IsFunIn R R.defs most f
-  argument_in most bound {L} locals (named {name = name} {types = types} {head = head} {ts = ts} {result = f} stands are is) deep small =
-      fun_in most bound L locals name types head ts f stands are (omega arith) (omega arith) is
+  argument_in : (most bound : ℕ) {L : Locals} {y : SExprKind-F SExprKind SArm SExpr} {f : RawFun} → AreLocalsIn R bound L →
+      IsArgument G L y f → layer_depth y ≤ most → layer_size y < 2 ^ 32 → IsArgumentIn R most f
+  argument_in most bound {L} locals (named {name = name} {types = types} {head = head} {ts = ts} {result = f} stands are is) deep small = record {
+    room = most - 1;
+    level = omega arith;
+    function = fun_in (most - 1) bound L locals name types head ts f stands are (omega arith) (omega arith) is;
+  }
 
-  arguments_in : (most bound : ℕ) {L : Locals} {es : List SExpr} {fs : List RawFun} → AreLocalsIn R bound L → AreArguments G L es fs → exprs_depth es ≤ most → exprs_size es < 2 ^ 32 → All (IsFunIn R R.defs most) fs
-  arguments_in most bound locals none deep small = All-nil (IsFunIn R R.defs most)
+  arguments_in : (most bound : ℕ) {L : Locals} {es : List SExpr} {fs : List RawFun} → AreLocalsIn R bound L → AreArguments G L es fs →
+      exprs_depth es ≤ most → exprs_size es < 2 ^ 32 → All (IsArgumentIn R most) fs
+  arguments_in most bound locals none deep small = All-nil (IsArgumentIn R most)
   arguments_in most bound locals (more {e = e} {es = es} {f = f} {fs = fs} first rest) deep small =
-      All-cons (IsFunIn R R.defs most) f fs
+      All-cons (IsArgumentIn R most) f fs
       (argument_in most bound locals first (omega (arith, depth_of_layer e)) (omega (arith, size_of_layer e, exprs_size-cons e es)))
       (arguments_in most bound locals rest (omega arith) (omega (arith, exprs_size-cons e es)))
 
   -- a function that is named with its types
-  pub fitting_function : (most bound : ℕ) (L : Locals) → AreLocalsIn R bound L → (s : SFun) (f : RawFun) → IsFunction G L s f → types_depth s.args ≤ most → types_size s.args < 2 ^ 32 → IsFunIn R R.defs most f
+  pub fitting_function : (most bound : ℕ) (L : Locals) → AreLocalsIn R bound L → (s : SFun) (f : RawFun) → IsFunction G L s f →
+      types_depth s.args ≤ most → types_size s.args < 2 ^ 32 → IsFunIn R R.defs most f
   fitting_function most bound L locals s f is deep small = fun_in most bound L locals s.name s.args is.head is.types f is.stands is.are_types deep small is.is
 
   -- the term has the layer that is its kind's
-  by_kind : (most bound at : ℕ) (kind : RawKind) (y : RawKind-F RawKind RawArm RawTerm) (t : RawTerm) → t ≡ raw_term at kind → out-RawKind kind ≡ y → IsTermIn P R most bound y → IsTermIn P R most bound (out-RawKind t.kind)
+  by_kind : (most bound at : ℕ) (kind : RawKind) (y : RawKind-F RawKind RawArm RawTerm) (t : RawTerm) → t ≡ raw_term at kind → out-RawKind kind ≡ y →
+      IsTermIn P R most bound y → IsTermIn P R most bound (out-RawKind t.kind)
   by_kind most bound at kind y t is outs within = subst (IsTermIn P R most bound) (sym (ap (λ (x : RawTerm). out-RawKind x.kind) is ∙ outs)) within
 
-  arm_in : (most bound : ℕ) (arm : SArm) (con : Constructor) (body : RawTerm) (a : RawArm) (cases : List RawArm) → a ≡ raw_arm arm con body → IsNamedIn P R con → length arm.vars < 2 ^ 32 → IsTermIn P R most (bound + length (map (λ (v : Name). v.at) arm.vars)) (out-RawKind body.kind) → AreArmsIn P R most bound cases → AreArmsIn P R most bound (a ∷ cases)
+  arm_in : (most bound : ℕ) (arm : SArm) (con : Constructor) (body : RawTerm) (a : RawArm) (cases : List RawArm) → a ≡ raw_arm arm con body →
+      IsNamedIn P R con → length arm.vars < 2 ^ 32 → IsTermIn P R most (bound + length (map (λ (v : Name). v.at) arm.vars)) (out-RawKind body.kind) →
+      AreArmsIn P R most bound cases → AreArmsIn P R most bound (a ∷ cases)
   arm_in most bound arm con body a cases is con_in few body_in rest =
       let few_places : IsShort (map (λ (v : Name). v.at) arm.vars) = omega (arith, length-map arm.vars (λ (v : Name). v.at)) in
       subst (λ (x : RawArm). AreArmsIn P R most bound (x ∷ cases)) (sym is) (AreArmsIn.more_arms con_in few_places body_in rest)
 
   mutual
     -- a term of this kind, with at most so many levels
-    pub fitting_layer : (most bound : ℕ) {L : Locals} {at : ℕ} {y : SExprKind-F SExprKind SArm SExpr} {t : RawTerm} → AreLocalsIn R bound L → IsTermLayer G L at y t → layer_depth y ≤ most → layer_size y < 2 ^ 32 → IsTermIn P R most bound (out-RawKind t.kind)
+    pub fitting_layer : (most bound : ℕ) {L : Locals} {at : ℕ} {y : SExprKind-F SExprKind SArm SExpr} {t : RawTerm} → AreLocalsIn R bound L →
+        IsTermLayer G L at y t → layer_depth y ≤ most → layer_size y < 2 ^ 32 → IsTermIn P R most bound (out-RawKind t.kind)
     fitting_layer most bound {t = t} locals (IsTermLayer.literal {at = at} {w = w} is) deep small =
         by_kind most bound at (kinds.Lit w) _ t is (kinds.outs-Lit w) (IsTermIn.literal {room = most - 1} (omega arith))
     fitting_layer most bound {L} {t = t} locals (IsTermLayer.value {at = at} {n = n} {name = name} {types = types} {ts = ts} stands are is) deep small =
-        by_kind most bound at (kinds.Free n ts) _ t is (kinds.outs-Free n ts) (IsTermIn.free {room = most - 1} (omega arith) (local_of_in R bound L locals name.text (Value n) stands) (types_few are (omega arith)) (fitting_types G L.types R globals.datatypes locals.tparams (most - 1) are (omega arith) (omega arith)))
+        by_kind most bound at (kinds.Free n ts) _ t is (kinds.outs-Free n ts)
+        (IsTermIn.free {room = most - 1} (omega arith) (local_of_in R bound L locals name.text (Value n) stands) (types_few are (omega arith))
+        (fitting_types G L.types R globals.datatypes locals.tparams (most - 1) are (omega arith) (omega arith)))
     fitting_layer most bound {L} {t = t} locals (IsTermLayer.pattern {at = at} {n = n} {name = name} {types = types} {ts = ts} stands are is) deep small =
-        by_kind most bound at (kinds.Bound n ts) _ t is (kinds.outs-Bound n ts) (IsTermIn.pattern {room = most - 1} (omega arith) (local_of_in R bound L locals name.text (Pattern n) stands) (types_few are (omega arith)) (fitting_types G L.types R globals.datatypes locals.tparams (most - 1) are (omega arith) (omega arith)))
+        by_kind most bound at (kinds.Bound n ts) _ t is (kinds.outs-Bound n ts)
+        (IsTermIn.pattern {room = most - 1} (omega arith) (local_of_in R bound L locals name.text (Pattern n) stands) (types_few are (omega arith))
+        (fitting_types G L.types R globals.datatypes locals.tparams (most - 1) are (omega arith) (omega arith)))
     fitting_layer most bound {L} {t = t} locals (IsTermLayer.construction {at = at} {name = name} {types = types} {fields = fields} {con = con} {ts = ts} {fs = fs} stands are terms is) deep small =
         by_kind most bound at (kinds.Con con.datatype con.number ts fs) _ t is (kinds.outs-Con con.datatype con.number ts fs)
         (IsTermIn.construction {room = most - 1} (omega arith) (constructor_in name.text con stands) (types_few are (omega arith))
-          (fitting_types G L.types R globals.datatypes locals.tparams (most - 1) are (omega arith) (omega arith))
-          (omega (arith, terms_count terms, length-le-exprs_size fields))
-          (fitting_terms (most - 1) bound locals terms (omega arith) (omega arith)))
-    fitting_layer most bound {L} {t = t} locals (IsTermLayer.call {at = at} {name = name} {types = types} {args = args} {head = head} {ts = ts} {funs = funs} {terms = terms} stands are arguments rest is) deep small =
+        (fitting_types G L.types R globals.datatypes locals.tparams (most - 1) are (omega arith) (omega arith))
+        (omega (arith, terms_count terms, length-le-exprs_size fields))
+        (fitting_terms (most - 1) bound locals terms (omega arith) (omega arith)))
+    fitting_layer most bound {L} {t = t} locals (IsTermLayer.call {at = at} {name = name} {types = types} {args = args} {head = head} {ts = ts} {funs = funs} {terms = terms} stands are arguments rest is)
+        deep small =
         let places = function_places G L name.text in
         by_kind most bound at (kinds.Call (raw_fun name head ts) funs terms) _ t is (kinds.outs-Call (raw_fun name head ts) funs terms)
         (IsTermIn.call {room = most - 1} (omega arith)
-          (fun_in (most - 1) bound L locals name types head ts (raw_fun name head ts) stands are (omega arith) (omega arith) refl)
-          (omega (arith, arguments_count arguments, length-le-exprs_size (take places args), sizes_take places args))
-          (arguments_in (most - 1) bound locals arguments (omega (arith, depths_take places args)) (omega (arith, sizes_take places args)))
-          (omega (arith, terms_count rest, length-le-exprs_size (drop places args), sizes_drop places args))
-          (fitting_terms (most - 1) bound locals rest (omega (arith, depths_drop places args)) (omega (arith, sizes_drop places args))))
+        (fun_in (most - 1) bound L locals name types head ts (raw_fun name head ts) stands are (omega arith) (omega arith) refl)
+        (omega (arith, arguments_count arguments, length-le-exprs_size (take places args), sizes_take places args))
+        (arguments_in (most - 1) bound locals arguments (omega (arith, depths_take places args)) (omega (arith, sizes_take places args)))
+        (omega (arith, terms_count rest, length-le-exprs_size (drop places args), sizes_drop places args))
+        (fitting_terms (most - 1) bound locals rest (omega (arith, depths_drop places args)) (omega (arith, sizes_drop places args))))
     fitting_layer most bound {t = t} locals (IsTermLayer.choice {at = at} {on = on} {arms = arms} {scrutinee = scrutinee} {cases = cases} on_is are is) deep small =
         by_kind most bound at (kinds.Match scrutinee cases) _ t is (kinds.outs-Match scrutinee cases)
         (IsTermIn.choice {room = most - 1} (omega arith)
-          (fitting_layer (most - 1) bound locals on_is (omega (arith, depth_of_layer on)) (omega (arith, size_of_layer on)))
-          (omega (arith, arms_count are, length-le-arms_size arms))
-          (fitting_arms (most - 1) bound locals are (omega arith) (omega arith)))
+        (fitting_layer (most - 1) bound locals on_is (omega (arith, depth_of_layer on)) (omega (arith, size_of_layer on)))
+        (omega (arith, arms_count are, length-le-arms_size arms))
+        (fitting_arms (most - 1) bound locals are (omega arith) (omega arith)))
 
     -- terms of at most so many levels
-    fitting_terms : (most bound : ℕ) {L : Locals} {es : List SExpr} {ts : List RawTerm} → AreLocalsIn R bound L → AreTerms G L es ts → exprs_depth es ≤ most → exprs_size es < 2 ^ 32 → AreTermsIn P R most bound ts
+    fitting_terms : (most bound : ℕ) {L : Locals} {es : List SExpr} {ts : List RawTerm} → AreLocalsIn R bound L → AreTerms G L es ts →
+        exprs_depth es ≤ most → exprs_size es < 2 ^ 32 → AreTermsIn P R most bound ts
     fitting_terms most bound locals AreTerms.no_terms deep small = AreTermsIn.no_terms
     fitting_terms most bound locals (AreTerms.more_terms {e = e} {es = es} first rest) deep small =
         AreTermsIn.more_terms
@@ -260,12 +285,13 @@ module _ (G : Globals) (P : RawProgram) (R : Range) (globals : AreGlobalsIn P R 
         (fitting_terms most bound locals rest (omega arith) (omega (arith, exprs_size-cons e es)))
 
     -- arms of at most so many levels
-    fitting_arms : (most bound : ℕ) {L : Locals} {arms : List SArm} {cases : List RawArm} → AreLocalsIn R bound L → AreArms G L arms cases → arms_depth arms ≤ most → arms_size arms < 2 ^ 32 → AreArmsIn P R most bound cases
+    fitting_arms : (most bound : ℕ) {L : Locals} {arms : List SArm} {cases : List RawArm} → AreLocalsIn R bound L → AreArms G L arms cases →
+        arms_depth arms ≤ most → arms_size arms < 2 ^ 32 → AreArmsIn P R most bound cases
     fitting_arms most bound locals AreArms.no_arms deep small = AreArmsIn.no_arms
     fitting_arms most bound {L} locals (AreArms.more_arms {arm = arm} {arms = arms} {con = con} {body = body} {a = a} {cases = cases} stands body_is is rest) deep small =
         arm_in most bound arm con body a cases is (constructor_in arm.name.text con stands)
         (omega (arith, arms_size-cons arm arms, arm_size-body arm))
         (fitting_layer most (bound + length (map (λ (v : Name). v.at) arm.vars)) (bound_in R bound L arm.vars locals) body_is
-          (omega (arith, arm_depth-body arm, depth_of_layer arm.body))
-          (omega (arith, arms_size-cons arm arms, arm_size-body arm, size_of_layer arm.body)))
+        (omega (arith, arm_depth-body arm, depth_of_layer arm.body))
+        (omega (arith, arms_size-cons arm arms, arm_size-body arm, size_of_layer arm.body)))
         (fitting_arms most bound locals rest (omega arith) (omega (arith, arms_size-cons arm arms)))

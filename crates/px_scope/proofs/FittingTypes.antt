@@ -1,5 +1,5 @@
 -- A type that is numbered names what may be named at its place.
-use Rattle.std.proofs.Common.{◌≡◌, ℕ, zero, suc, ◌+◌, ◌<◌, ◌≤◌, ◌^◌, Bool, true, false, cond, List, [], ◌∷◌, length, Option, Some, None, refl, sym, ap, ◌∙◌, subst, arith}
+use Rattle.std.proofs.Common.{◌≡◌, ℕ, zero, suc, ◌<◌, ◌≤◌, ◌^◌, Bool, true, false, cond, List, length, Option, Some, None, refl, ap, ◌∙◌, subst, arith}
 use Rattle.std.specs.Option.{option_map, option_and_then}
 use Rattle.std.specs.List.{position}
 use Rattle.std.specs.Str.{bytes_eq}
@@ -8,7 +8,7 @@ use Rattle.std.proofs.lemmas.List.Quantifiers.{position-Some}
 use Rattle.px_terms.specs.declared.raw.RawTyKind.{RawTyKind}
 use Rattle.px_terms.specs.declared.raw.RawTyKind.TheVariants as type_kinds
 use Rattle.px_terms.specs.declared.raw.RawTy.{RawTy, out-RawTy}
-use Rattle.px_terms.specs.declared.raw.RawTy.TheViews.{roll-RawTy, out-roll-RawTy}
+use Rattle.px_terms.specs.declared.raw.RawTy.TheViews.{out-roll-RawTy}
 use Rattle.px_parser.specs.declared.surface.SType.{SType, out-SType}
 use Rattle.px_parser.specs.Sizes.{type_size, types_size, type_depth, types_depth}
 use Rattle.px_parser.specs.SizeEquations.{type_size-out, type_depth-out, types_size-cons, length-le-types_size}
@@ -36,7 +36,8 @@ number_within names name n is = at_place (position (bytes_eq name) names) refl i
     at_place (Some k) at is = let same = number_is k n is in subst (λ m. m < length names) same (position-Some (bytes_eq name) names k name at).0
 
 -- what a type names may be named, where both numbers may be
-kind_at : (R : Range) (var : Option ℕ) (word : Bool) (con : Option ℕ) (kind : RawTyKind) → ((n : ℕ) → var ≡ Some n → n < R.tparams) → ((n : ℕ) → con ≡ Some n → n < R.datatypes) →
+kind_at : (R : Range) (var : Option ℕ) (word : Bool) (con : Option ℕ) (kind : RawTyKind) → ((n : ℕ) → var ≡ Some n → n < R.tparams) →
+    ((n : ℕ) → con ≡ Some n → n < R.datatypes) →
     or_else (option_map type_kinds.Var var) (cond word (Some type_kinds.Word) (option_map type_kinds.Con con)) ≡ Some kind → IsTyKindIn R kind
 kind_at R (Some n) word con kind vars cons is = let same : type_kinds.Var n ≡ kind = cc in subst (IsTyKindIn R) same (vars n refl)
 kind_at R None true con kind vars cons is = let same : type_kinds.Word ≡ kind = cc in subst (IsTyKindIn R) same tt
@@ -44,7 +45,8 @@ kind_at R None false (Some n) kind vars cons is = let same : type_kinds.Con n �
 kind_at R None false None kind vars cons is = absurd cc
 
 -- a type of one level more than its arguments
-written_in : (R : Range) (room at : ℕ) (kind : RawTyKind) (args : List RawTy) (t : RawTy) → t ≡ raw_type at kind args → IsTyKindIn R kind → IsShort args → AreTypesIn R room args → IsTypeIn R (suc room) t
+written_in : (R : Range) (room at : ℕ) (kind : RawTyKind) (args : List RawTy) (t : RawTy) → t ≡ raw_type at kind args → IsTyKindIn R kind →
+    IsShort args → AreTypesIn R room args → IsTypeIn R (suc room) t
 written_in R room at kind args t is named few are =
     let layer = ap out-RawTy is ∙ out-roll-RawTy (record { at = at; kind = kind; args = args }) in
     ranged refl (rw layer named) (rw layer few) (rw layer are)
@@ -76,7 +78,8 @@ module _ (G : Globals) (T : TypeLocals) (R : Range) (datatypes : length G.dataty
         written_in R room (out-SType s).name.at kind args t is (kind_in (out-SType s).name.text kind stands) (types_few are size) (fitting_types room are depth size)
 
     -- types of at most so many levels
-    pub fitting_types : (most : ℕ) {ss : List SType} {ts : List RawTy} → AreTypes G T ss ts → types_depth ss ≤ most → types_size ss < 2 ^ 32 → AreTypesIn R most ts
+    pub fitting_types : (most : ℕ) {ss : List SType} {ts : List RawTy} → AreTypes G T ss ts → types_depth ss ≤ most → types_size ss < 2 ^ 32 →
+        AreTypesIn R most ts
     fitting_types most none deep small = no_types
     fitting_types most (more {s = s} {ss = ss} first rest) deep small =
         let sizes = types_size-cons s ss in

@@ -55,7 +55,8 @@ IsTyKindIn R (Con n) = n < R.datatypes
 mutual
   -- the type has at most so many levels, and names what may be named
   pub data IsTypeIn (R : Range) : ℕ → RawTy → Type 0 where
-    ranged : {most room : ℕ} {t : RawTy} → most ≡ suc room → IsTyKindIn R (out-RawTy t).kind → IsShort (out-RawTy t).args → AreTypesIn R room (out-RawTy t).args → IsTypeIn R most t
+    ranged : {most room : ℕ} {t : RawTy} → most ≡ suc room → IsTyKindIn R (out-RawTy t).kind → IsShort (out-RawTy t).args →
+        AreTypesIn R room (out-RawTy t).args → IsTypeIn R most t
 
   -- so does each of the types
   pub data AreTypesIn (R : Range) : ℕ → List RawTy → Type 0 where
@@ -82,25 +83,40 @@ pub record IsFunIn (R : Range) (defs most : ℕ) (f : RawFun) : Type 0 where
   pub few : IsShort f.types
   pub types : AreTypesIn R most f.types
 
+-- The function may be an argument, which has one level more than its types.
+pub record IsArgumentIn (R : Range) (most : ℕ) (f : RawFun) : Type 0 where
+  pub room : ℕ
+  pub level : most ≡ suc room
+  pub function : IsFunIn R R.defs room f
+
 mutual
   -- a term of this kind has at most so many levels, and names what may be named where so many variables of patterns are bound
   pub data IsTermIn (P : RawProgram) (R : Range) : ℕ → ℕ → RawKind-F RawKind RawArm RawTerm → Type 0 where
-    free : {most room bound n : ℕ} {types : List RawTy} → most ≡ suc room → n < R.values → IsShort types → AreTypesIn R room types → IsTermIn P R most bound (RawKind-F.Free n types)
-    pattern : {most room bound n : ℕ} {types : List RawTy} → most ≡ suc room → n < bound → IsShort types → AreTypesIn R room types → IsTermIn P R most bound (RawKind-F.Bound n types)
+    free : {most room bound n : ℕ} {types : List RawTy} → most ≡ suc room → n < R.values → IsShort types → AreTypesIn R room types →
+        IsTermIn P R most bound (RawKind-F.Free n types)
+    pattern : {most room bound n : ℕ} {types : List RawTy} → most ≡ suc room → n < bound → IsShort types → AreTypesIn R room types →
+        IsTermIn P R most bound (RawKind-F.Bound n types)
     literal : {most room bound w : ℕ} → most ≡ suc room → IsTermIn P R most bound (RawKind-F.Lit w)
-    construction : {most room bound d k : ℕ} {types : List RawTy} {fields : List RawTerm} → most ≡ suc room → IsConstructorIn P R d k → IsShort types → AreTypesIn R room types → IsShort fields → AreTermsIn P R room bound fields → IsTermIn P R most bound (RawKind-F.Con d k types fields)
-    call : {most room bound : ℕ} {fun : RawFun} {funs : List RawFun} {args : List RawTerm} → most ≡ suc room → IsFunIn R R.defs room fun → IsShort funs → All (IsFunIn R R.defs room) funs → IsShort args → AreTermsIn P R room bound args → IsTermIn P R most bound (RawKind-F.Call fun funs args)
-    choice : {most room bound : ℕ} {on : RawTerm} {arms : List RawArm} → most ≡ suc room → IsTermIn P R room bound (out-RawKind on.kind) → IsShort arms → AreArmsIn P R room bound arms → IsTermIn P R most bound (RawKind-F.Match on arms)
+    construction : {most room bound d k : ℕ} {types : List RawTy} {fields : List RawTerm} → most ≡ suc room → IsConstructorIn P R d k →
+        IsShort types → AreTypesIn R room types → IsShort fields → AreTermsIn P R room bound fields →
+        IsTermIn P R most bound (RawKind-F.Con d k types fields)
+    call : {most room bound : ℕ} {fun : RawFun} {funs : List RawFun} {args : List RawTerm} → most ≡ suc room → IsFunIn R R.defs room fun →
+        IsShort funs → All (IsArgumentIn R room) funs → IsShort args → AreTermsIn P R room bound args →
+        IsTermIn P R most bound (RawKind-F.Call fun funs args)
+    choice : {most room bound : ℕ} {on : RawTerm} {arms : List RawArm} → most ≡ suc room → IsTermIn P R room bound (out-RawKind on.kind) →
+        IsShort arms → AreArmsIn P R room bound arms → IsTermIn P R most bound (RawKind-F.Match on arms)
 
   -- so does each of the terms
   pub data AreTermsIn (P : RawProgram) (R : Range) : ℕ → ℕ → List RawTerm → Type 0 where
     no_terms : {most bound : ℕ} → AreTermsIn P R most bound []
-    more_terms : {most bound : ℕ} {t : RawTerm} {ts : List RawTerm} → IsTermIn P R most bound (out-RawKind t.kind) → AreTermsIn P R most bound ts → AreTermsIn P R most bound (t ∷ ts)
+    more_terms : {most bound : ℕ} {t : RawTerm} {ts : List RawTerm} → IsTermIn P R most bound (out-RawKind t.kind) → AreTermsIn P R most bound ts →
+        AreTermsIn P R most bound (t ∷ ts)
 
   -- so does each of the arms: in its body the variables of its pattern are bound too
   pub data AreArmsIn (P : RawProgram) (R : Range) : ℕ → ℕ → List RawArm → Type 0 where
     no_arms : {most bound : ℕ} → AreArmsIn P R most bound []
-    more_arms : {most bound : ℕ} {a : RawArm} {arms : List RawArm} → IsConstructorIn P R a.datatype a.con → IsShort a.vars → IsTermIn P R most (bound + length a.vars) (out-RawKind a.body.kind) → AreArmsIn P R most bound arms → AreArmsIn P R most bound (a ∷ arms)
+    more_arms : {most bound : ℕ} {a : RawArm} {arms : List RawArm} → IsConstructorIn P R a.datatype a.con → IsShort a.vars →
+        IsTermIn P R most (bound + length a.vars) (out-RawKind a.body.kind) → AreArmsIn P R most bound arms → AreArmsIn P R most bound (a ∷ arms)
 
 -- the term is in the range, with at most NESTING levels
 abbrev pub IsWholeTermIn : RawProgram → Range → RawTerm → Type 0
@@ -191,11 +207,16 @@ pub record AreAll (P : RawProgram) (C : Counts) : Type 0 where
 -- names what stands before it.
 pub data AreInOrder (P : RawProgram) : Counts → List Decl → Type 0 where
   done : {C : Counts} → AreAll P C → AreInOrder P C []
-  datatype : {C : Counts} {n : ℕ} {raw : RawData} {rest : List Decl} → n ≡ C.datatypes → slice_get P.datatypes n ≡ Some raw → IsDataIn C raw → AreInOrder P (record C { datatypes = C.datatypes + 1 }) rest → AreInOrder P C (decl.Datatype n ∷ rest)
-  definition : {C : Counts} {n : ℕ} {raw : RawDef} {rest : List Decl} → n ≡ C.defs → slice_get P.defs n ≡ Some raw → IsDefIn P C raw → AreInOrder P (record C { defs = C.defs + 1 }) rest → AreInOrder P C (decl.Definition n ∷ rest)
-  claim : {C : Counts} {n : ℕ} {raw : RawClaim} {rest : List Decl} → n ≡ C.claims → slice_get P.claims n ≡ Some raw → IsClaimIn C raw → AreInOrder P (record C { claims = C.claims + 1 }) rest → AreInOrder P C (decl.Claim n ∷ rest)
-  lemma : {C : Counts} {n : ℕ} {raw : RawLemma} {rest : List Decl} → n ≡ C.lemmas → slice_get P.lemmas n ≡ Some raw → IsLemmaIn P C raw → AreInOrder P (record C { lemmas = C.lemmas + 1 }) rest → AreInOrder P C (decl.Lemma n ∷ rest)
-  replica : {C : Counts} {n : ℕ} {raw : RawReplica} {rest : List Decl} → n ≡ C.replicas → slice_get P.replicas n ≡ Some raw → IsReplicaIn P C raw → AreInOrder P (record C { replicas = C.replicas + 1 }) rest → AreInOrder P C (decl.Replica n ∷ rest)
+  datatype : {C : Counts} {n : ℕ} {raw : RawData} {rest : List Decl} → n ≡ C.datatypes → slice_get P.datatypes n ≡ Some raw → IsDataIn C raw →
+      AreInOrder P (record C { datatypes = C.datatypes + 1 }) rest → AreInOrder P C (decl.Datatype n ∷ rest)
+  definition : {C : Counts} {n : ℕ} {raw : RawDef} {rest : List Decl} → n ≡ C.defs → slice_get P.defs n ≡ Some raw → IsDefIn P C raw →
+      AreInOrder P (record C { defs = C.defs + 1 }) rest → AreInOrder P C (decl.Definition n ∷ rest)
+  claim : {C : Counts} {n : ℕ} {raw : RawClaim} {rest : List Decl} → n ≡ C.claims → slice_get P.claims n ≡ Some raw → IsClaimIn C raw →
+      AreInOrder P (record C { claims = C.claims + 1 }) rest → AreInOrder P C (decl.Claim n ∷ rest)
+  lemma : {C : Counts} {n : ℕ} {raw : RawLemma} {rest : List Decl} → n ≡ C.lemmas → slice_get P.lemmas n ≡ Some raw → IsLemmaIn P C raw →
+      AreInOrder P (record C { lemmas = C.lemmas + 1 }) rest → AreInOrder P C (decl.Lemma n ∷ rest)
+  replica : {C : Counts} {n : ℕ} {raw : RawReplica} {rest : List Decl} → n ≡ C.replicas → slice_get P.replicas n ≡ Some raw → IsReplicaIn P C raw →
+      AreInOrder P (record C { replicas = C.replicas + 1 }) rest → AreInOrder P C (decl.Replica n ∷ rest)
 
 -- `Bool` alone stands before the first declaration
 abbrev pub bool_alone : Counts
@@ -205,7 +226,8 @@ bool_alone = record { datatypes = 1; defs = 0; claims = 0; lemmas = 0; replicas 
 pub record HasNames (P : RawProgram) : Type 0 where
   pub datatypes : length P.names.datatypes ≡ length P.datatypes
   pub cons : length P.names.cons ≡ length P.datatypes
-  pub constructors : (n : ℕ) (raw : RawData) (own : List (List ℕ)) → slice_get P.datatypes n ≡ Some raw → slice_get P.names.cons n ≡ Some own → length own ≡ length raw.cons
+  pub constructors : (n : ℕ) (raw : RawData) (own : List (List ℕ)) → slice_get P.datatypes n ≡ Some raw → slice_get P.names.cons n ≡ Some own →
+      length own ≡ length raw.cons
   pub defs : length P.names.defs ≡ length P.defs
   pub lemmas : length P.names.lemmas ≡ length P.lemmas
   pub replicas : length P.names.replicas ≡ length P.replicas
