@@ -1,30 +1,72 @@
 -- The laws of the table of causes, each by the stages of the chain.
-use Rattle.std.proofs.Common.{◌≡◌, ◌<◌, ◌≤◌, ℕ, List, length, Option, None, Some, inl, inr, refl, ap, subst, arith, length-append}
+use Rattle.std.proofs.Common.{◌≡◌, ◌<◌, ◌≤◌, ℕ, ◌⊎◌, List, length, Option, None, Some, Err, inl, inr, refl, ap, sym, subst, ◌∙◌, arith, length-append}
 use Rattle.std.specs.Io.KnownBytes.{Consumes}
+use Rattle.px_terms.specs.declared.program.Program.{Program as AnyProgram}
 use Rattle.px_world.specs.Known.{Told, IsLonger}
 use Rattle.px_drive.specs.declared.outcome.CommandLine.{CommandLine}
-use Rattle.px_drive.specs.declared.outcome.CommandLine.TheVariants.{Replay}
+use Rattle.px_drive.specs.declared.outcome.CommandLine.TheVariants.{Check, Replay}
 use Rattle.px_drive.specs.declared.outcome.Which.TheVariants.{Program, Derivation}
 use Rattle.px_drive.specs.declared.outcome.End.{End}
 use Rattle.px_drive.specs.declared.outcome.End.TheVariants.{Done, Usage, Source, Rejected, ReadFault, WriteFault, NoMemory, TooLong}
-use Rattle.px_drive.specs.declared.outcome.SourceFault.TheVariants.{Unbuilt}
+use Rattle.px_drive.specs.declared.outcome.SourceFault.{SourceFault}
 use Rattle.px_drive.specs.Lines.{line_of}
 use Rattle.px_drive.specs.Seen.{FilesSeen, SinkSeen}
-use Rattle.px_drive.specs.Ends.{limit_of, LineEnds}
-use Rattle.px_drive.specs.Laws.{UsageByWords, DoneOrUsage, EndsAreNamed, DoneIsReplayed, RejectedIsRefused, TooLongIsLonger, LongIsTooLong, LongIsNotReplayed, RefusalsPrintNothing}
+use Rattle.px_drive.specs.Ends.{limit_of, ReadsText, Accepts, Prints, AndThen, LineEnds}
+use Rattle.px_drive.specs.Messages.{checked_line, accepted_line}
+use Rattle.px_drive.specs.Sources.{IsSourceFault, Sources}
+use Rattle.px_drive.specs.Laws.{OneSourceFault, NeverBoth, program_of, UsageByWords, DoneOrUsage, EndsAreNamed, IsFaulty, SourceIsFaulty, FaultyIsSource, DoneIsChecked, DoneIsReplayed, RejectedIsRefused, TooLongIsLonger, LongIsTooLong, LongIsNotReplayed, RefusalsPrintNothing}
+
+-- what a line does after its program was read
+abbrev Goes : FilesSeen → SinkSeen → CommandLine → AnyProgram → End → List ℕ → Type 0
+Goes files out (Check file) program = Prints (checked_line program) out
+Goes files out (Replay file derivation) program = AndThen (ReadsText Derivation files derivation) (λ bytes. AndThen (Accepts program bytes) (λ n. Prints (accepted_line n) out))
+
+-- each line reads its program first
+abbrev Begins : FilesSeen → SinkSeen → CommandLine → End → List ℕ → Type 0
+Begins files out line end printed = AndThen (ReadsText Program files (program_of line)) (λ text. AndThen (Sources text) (λ program. Goes files out line program)) end printed
+
+begins : (files : FilesSeen) (out : SinkSeen) (line : CommandLine) (end : End) (printed : List ℕ) → LineEnds files out line end printed → Begins files out line end printed
+begins files out (Check file) end printed h = h
+begins files out (Replay file derivation) end printed h = h
 
 -- a line doesn't end in Usage
 pub no_usage : (files : FilesSeen) (out : SinkSeen) (line : CommandLine) (printed : List ℕ) → LineEnds files out line Usage printed → ⊥
+no_usage files out (Check file) printed (inl (h, _)) = h
+no_usage files out (Check file) printed (inr (text, _, inl (h, _))) = h
+no_usage files out (Check file) printed (inr (text, _, inr (program, _, h))) = h
 no_usage files out (Replay file derivation) printed (inl (h, _)) = h
 no_usage files out (Replay file derivation) printed (inr (text, _, inl (h, _))) = h
 no_usage files out (Replay file derivation) printed (inr (text, _, inr (program, _, inl (h, _)))) = h
 no_usage files out (Replay file derivation) printed (inr (text, _, inr (program, _, inr (steps, _, inl (h, _))))) = h
 no_usage files out (Replay file derivation) printed (inr (text, _, inr (program, _, inr (steps, _, inr (n, _, h))))) = h
 
+-- `check` ends neither in Rejected nor with a derivation that is too long
+check_is_named : (files : FilesSeen) (out : SinkSeen) (file printed : List ℕ) → (LineEnds files out (Check file) Rejected printed → ⊥) × (LineEnds files out (Check file) (TooLong Derivation) printed → ⊥)
+check_is_named files out file printed = (rejected, derivation)
+  where
+    rejected : LineEnds files out (Check file) Rejected printed → ⊥
+    rejected (inl (h, _)) = h
+    rejected (inr (text, _, inl (h, _))) = h
+    rejected (inr (text, _, inr (program, _, h))) = h
+
+    derivation : LineEnds files out (Check file) (TooLong Derivation) printed → ⊥
+    derivation (inl ((differ, _), _)) = let no : Derivation ≡ Program = differ in cc
+    derivation (inr (text, _, inl (h, _))) = h
+    derivation (inr (text, _, inr (program, _, h))) = h
+
 pub ends_are_named : EndsAreNamed
+ends_are_named files out (Check file) Done printed h = tt
+ends_are_named files out (Check file) Usage printed h = no_usage files out (Check file) printed h
+ends_are_named files out (Check file) (Source fault) printed h = tt
+ends_are_named files out (Check file) Rejected printed h = (check_is_named files out file printed).0 h
+ends_are_named files out (Check file) ReadFault printed h = tt
+ends_are_named files out (Check file) WriteFault printed h = tt
+ends_are_named files out (Check file) NoMemory printed h = tt
+ends_are_named files out (Check file) (TooLong Program) printed h = tt
+ends_are_named files out (Check file) (TooLong Derivation) printed h = (check_is_named files out file printed).1 h
 ends_are_named files out (Replay file derivation) Done printed h = tt
 ends_are_named files out (Replay file derivation) Usage printed h = no_usage files out (Replay file derivation) printed h
-ends_are_named files out (Replay file derivation) (Source Unbuilt) printed h = tt
+ends_are_named files out (Replay file derivation) (Source fault) printed h = tt
 ends_are_named files out (Replay file derivation) Rejected printed h = tt
 ends_are_named files out (Replay file derivation) ReadFault printed h = tt
 ends_are_named files out (Replay file derivation) WriteFault printed h = tt
@@ -51,6 +93,11 @@ done_or_usage words files others out other None another (h, _) usage = h
 done_or_usage words files others out other (Some line) another (is, _) usage =
     let none : line_of words ≡ None = (usage_is_by_words words others other another Usage usage).0 refl in
     cc
+
+pub done_is_checked : DoneIsChecked
+done_is_checked files out file printed (inl (h, _)) = absurd h
+done_is_checked files out file printed (inr (text, _, inl (h, _))) = absurd h
+done_is_checked files out file printed (inr (text, read, inr (program, source, is))) = record { text = text; program = program; text_is = read.0; is_source = source; printed_is = is }
 
 pub done_is_replayed : DoneIsReplayed
 done_is_replayed files out file derivation printed (inl (h, _)) = absurd h
@@ -89,16 +136,21 @@ longer None left came limit consumed above = tt
 longer (Some text) None came limit consumed above = absurd consumed
 longer (Some text) (Some rest) came limit consumed above = omega (arith, ap length consumed, length-append came rest)
 
-pub too_long_is_longer : TooLongIsLonger
-too_long_is_longer files out file derivation printed = (program, steps)
-  where
-    program : LineEnds files out (Replay file derivation) (TooLong Program) printed → IsLonger (files.bytes file) (limit_of Program)
-    program (inl ((_, (came, consumed, above)), _)) = longer _ _ came _ consumed above
-    program (inr (text, _, inl (h, _))) = absurd h
-    program (inr (text, _, inr (read, _, inl ((differ, _), _)))) = cc
-    program (inr (text, _, inr (read, _, inr (bytes, _, inl (h, _))))) = absurd h
-    program (inr (text, _, inr (read, _, inr (bytes, _, inr (n, _, h))))) = absurd h
+-- after the program was read it isn't too long
+not_too_long : (files : FilesSeen) (out : SinkSeen) (line : CommandLine) (program : AnyProgram) (printed : List ℕ) → Goes files out line program (TooLong Program) printed → ⊥
+not_too_long files out (Check file) program printed h = h
+not_too_long files out (Replay file derivation) program printed (inl ((differ, _), _)) = let no : Program ≡ Derivation = differ in cc
+not_too_long files out (Replay file derivation) program printed (inr (bytes, _, inl (h, _))) = h
+not_too_long files out (Replay file derivation) program printed (inr (bytes, _, inr (n, _, h))) = h
 
+program_is_longer : (files : FilesSeen) (out : SinkSeen) (line : CommandLine) (printed : List ℕ) → Begins files out line (TooLong Program) printed → IsLonger (files.bytes (program_of line)) (limit_of Program)
+program_is_longer files out line printed (inl ((_, (came, consumed, above)), _)) = longer _ _ came _ consumed above
+program_is_longer files out line printed (inr (text, _, inl (h, _))) = absurd h
+program_is_longer files out line printed (inr (text, _, inr (program, _, h))) = absurd (not_too_long files out line program printed h)
+
+pub too_long_is_longer : TooLongIsLonger
+too_long_is_longer files out line file derivation printed = (λ h. program_is_longer files out line printed (begins files out line (TooLong Program) printed h), steps)
+  where
     steps : LineEnds files out (Replay file derivation) (TooLong Derivation) printed → IsLonger (files.bytes derivation) (limit_of Derivation)
     steps (inl ((differ, _), _)) = cc
     steps (inr (text, _, inl (h, _))) = absurd h
@@ -113,16 +165,19 @@ not_whole (Some whole) text bytes limit known above told fits =
     let same : whole ≡ text = cc in
     omega (arith, ap length told, ap length same)
 
+long_ends : (files : FilesSeen) (out : SinkSeen) (line : CommandLine) (printed text : List ℕ) (end : End) → files.bytes (program_of line) ≡ Some text → limit_of Program < length text → Begins files out line end printed → (end ≡ TooLong Program) ⊎ ((end ≡ ReadFault) ⊎ (end ≡ NoMemory))
+long_ends files out line printed text end known above (inr (bytes, read, rest)) = absurd (not_whole (files.bytes (program_of line)) text bytes (limit_of Program) known above read.0 read.1)
+long_ends files out line printed text (TooLong long) known above (inl ((is, _), _)) = inl (ap TooLong is)
+long_ends files out line printed text ReadFault known above (inl h) = inr (inl refl)
+long_ends files out line printed text NoMemory known above (inl h) = inr (inr refl)
+long_ends files out line printed text Done known above (inl (h, _)) = absurd h
+long_ends files out line printed text Usage known above (inl (h, _)) = absurd h
+long_ends files out line printed text (Source fault) known above (inl (h, _)) = absurd h
+long_ends files out line printed text Rejected known above (inl (h, _)) = absurd h
+long_ends files out line printed text WriteFault known above (inl (h, _)) = absurd h
+
 pub long_is_too_long : LongIsTooLong
-long_is_too_long files out file derivation printed text end known above (inr (bytes, read, rest)) = absurd (not_whole (files.bytes file) text bytes (limit_of Program) known above read.0 read.1)
-long_is_too_long files out file derivation printed text (TooLong long) known above (inl ((is, _), _)) = inl (ap TooLong is)
-long_is_too_long files out file derivation printed text ReadFault known above (inl h) = inr (inl refl)
-long_is_too_long files out file derivation printed text NoMemory known above (inl h) = inr (inr refl)
-long_is_too_long files out file derivation printed text Done known above (inl (h, _)) = absurd h
-long_is_too_long files out file derivation printed text Usage known above (inl (h, _)) = absurd h
-long_is_too_long files out file derivation printed text (Source fault) known above (inl (h, _)) = absurd h
-long_is_too_long files out file derivation printed text Rejected known above (inl (h, _)) = absurd h
-long_is_too_long files out file derivation printed text WriteFault known above (inl (h, _)) = absurd h
+long_is_too_long files out line printed text end known above h = long_ends files out line printed text end known above (begins files out line end printed h)
 
 pub long_is_not_replayed : LongIsNotReplayed
 long_is_not_replayed files out file derivation printed bytes Done known above (inl (h, _)) = absurd h
@@ -147,16 +202,87 @@ long_is_not_replayed files out file derivation printed bytes NoMemory known abov
 long_is_not_replayed files out file derivation printed bytes (TooLong long) known above h = tt
 
 -- the last stage has no other end than Done and a fault of writing
+prints_done : (line : List ℕ) (out : SinkSeen) (end : End) (printed : List ℕ) → Prints line out end printed → (end ≡ Done) ⊎ (end ≡ WriteFault)
+prints_done line out Done printed h = inl refl
+prints_done line out WriteFault printed h = inr refl
+prints_done line out Usage printed h = absurd h
+prints_done line out (Source fault) printed h = absurd h
+prints_done line out Rejected printed h = absurd h
+prints_done line out ReadFault printed h = absurd h
+prints_done line out NoMemory printed h = absurd h
+prints_done line out (TooLong long) printed h = absurd h
+
+neither : (end : End) → (end ≡ Done) ⊎ (end ≡ WriteFault) → ¬ (end ≡ Done) → ¬ (end ≡ WriteFault) → ⊥
+neither end (inl is) not_done not_fault = not_done is
+neither end (inr is) not_done not_fault = not_fault is
+
 pub refusals_print_nothing : RefusalsPrintNothing
-refusals_print_nothing files out file derivation printed end (inl (_, none)) not_done not_fault = none
-refusals_print_nothing files out file derivation printed end (inr (text, _, inl (_, none))) not_done not_fault = none
-refusals_print_nothing files out file derivation printed end (inr (text, _, inr (program, _, inl (_, none)))) not_done not_fault = none
-refusals_print_nothing files out file derivation printed end (inr (text, _, inr (program, _, inr (steps, _, inl (_, none))))) not_done not_fault = none
-refusals_print_nothing files out file derivation printed Done (inr (text, _, inr (program, _, inr (steps, _, inr (n, _, h))))) not_done not_fault = absurd (not_done refl)
-refusals_print_nothing files out file derivation printed WriteFault (inr (text, _, inr (program, _, inr (steps, _, inr (n, _, h))))) not_done not_fault = absurd (not_fault refl)
-refusals_print_nothing files out file derivation printed Usage (inr (text, _, inr (program, _, inr (steps, _, inr (n, _, h))))) not_done not_fault = absurd h
-refusals_print_nothing files out file derivation printed (Source fault) (inr (text, _, inr (program, _, inr (steps, _, inr (n, _, h))))) not_done not_fault = absurd h
-refusals_print_nothing files out file derivation printed Rejected (inr (text, _, inr (program, _, inr (steps, _, inr (n, _, h))))) not_done not_fault = absurd h
-refusals_print_nothing files out file derivation printed ReadFault (inr (text, _, inr (program, _, inr (steps, _, inr (n, _, h))))) not_done not_fault = absurd h
-refusals_print_nothing files out file derivation printed NoMemory (inr (text, _, inr (program, _, inr (steps, _, inr (n, _, h))))) not_done not_fault = absurd h
-refusals_print_nothing files out file derivation printed (TooLong long) (inr (text, _, inr (program, _, inr (steps, _, inr (n, _, h))))) not_done not_fault = absurd h
+refusals_print_nothing files out (Check file) printed end (inl (_, none)) not_done not_fault = none
+refusals_print_nothing files out (Check file) printed end (inr (text, _, inl (_, none))) not_done not_fault = none
+refusals_print_nothing files out (Check file) printed end (inr (text, _, inr (program, _, h))) not_done not_fault = absurd (neither end (prints_done (checked_line program) out end printed h) not_done not_fault)
+refusals_print_nothing files out (Replay file derivation) printed end (inl (_, none)) not_done not_fault = none
+refusals_print_nothing files out (Replay file derivation) printed end (inr (text, _, inl (_, none))) not_done not_fault = none
+refusals_print_nothing files out (Replay file derivation) printed end (inr (text, _, inr (program, _, inl (_, none)))) not_done not_fault = none
+refusals_print_nothing files out (Replay file derivation) printed end (inr (text, _, inr (program, _, inr (steps, _, inl (_, none))))) not_done not_fault = none
+refusals_print_nothing files out (Replay file derivation) printed end (inr (text, _, inr (program, _, inr (steps, _, inr (n, _, h))))) not_done not_fault = absurd (neither end (prints_done (accepted_line n) out end printed h) not_done not_fault)
+
+-- after the program was read there is no fault of it
+no_source : (files : FilesSeen) (out : SinkSeen) (line : CommandLine) (program : AnyProgram) (fault : SourceFault) (printed : List ℕ) → Goes files out line program (Source fault) printed → ⊥
+no_source files out (Check file) program fault printed h = h
+no_source files out (Replay file derivation) program fault printed (inl (h, _)) = h
+no_source files out (Replay file derivation) program fault printed (inr (bytes, _, inl (h, _))) = h
+no_source files out (Replay file derivation) program fault printed (inr (bytes, _, inr (n, _, h))) = h
+
+faulty : (files : FilesSeen) (out : SinkSeen) (line : CommandLine) (printed : List ℕ) (fault : SourceFault) → Begins files out line (Source fault) printed → IsFaulty files (program_of line) fault
+faulty files out line printed fault (inl (h, _)) = absurd h
+faulty files out line printed fault (inr (text, read, inl (source, _))) = record { text = text; text_is = read.0; is_fault = source }
+faulty files out line printed fault (inr (text, _, inr (program, _, h))) = absurd (no_source files out line program fault printed h)
+
+pub source_is_faulty : SourceIsFaulty
+source_is_faulty files out line printed fault h = faulty files out line printed fault (begins files out line (Source fault) printed h)
+
+-- the bytes that were read are those that are told
+pub told_is : (known : Option (List ℕ)) (text bytes : List ℕ) → known ≡ Some text → Told known bytes → bytes ≡ text
+told_is None text bytes known told = cc
+told_is (Some whole) text bytes known told = told ∙ (let same : whole ≡ text = cc in same)
+
+-- a told text is not longer than a limit that it is within
+pub not_longer : (known : Option (List ℕ)) (text : List ℕ) (limit : ℕ) → known ≡ Some text → length text ≤ limit → IsLonger known limit → ⊥
+not_longer None text limit known fits above = cc
+not_longer (Some whole) text limit known fits above = let same : whole ≡ text = cc in omega (arith, ap length same)
+
+module _ (one_fault : OneSourceFault) (never_both : NeverBoth) where
+  -- a text that has a fault is refused for it, but for want of memory
+  refused : (text : List ℕ) (fault : SourceFault) (end : End) → IsSourceFault text fault → Sources text (Err end) → (end ≡ Source fault) ⊎ (end ≡ NoMemory)
+  refused text fault (Source found) is h = inl (ap Source (one_fault text found fault h is))
+  refused text fault NoMemory is h = inr refl
+  refused text fault Done is h = absurd h
+  refused text fault Usage is h = absurd h
+  refused text fault Rejected is h = absurd h
+  refused text fault ReadFault is h = absurd h
+  refused text fault WriteFault is h = absurd h
+  refused text fault (TooLong long) is h = absurd h
+
+  with_reading : (fault : SourceFault) (end : End) → (end ≡ Source fault) ⊎ (end ≡ NoMemory) → (end ≡ Source fault) ⊎ ((end ≡ ReadFault) ⊎ (end ≡ NoMemory))
+  with_reading fault end (inl is) = inl is
+  with_reading fault end (inr is) = inr (inr is)
+
+  faulty_ends : (files : FilesSeen) (out : SinkSeen) (line : CommandLine) (printed text : List ℕ) (fault : SourceFault) (end : End) → files.bytes (program_of line) ≡ Some text → length text ≤ limit_of Program
+      → IsSourceFault text fault → Begins files out line end printed → (end ≡ Source fault) ⊎ ((end ≡ ReadFault) ⊎ (end ≡ NoMemory))
+  faulty_ends files out line printed text fault end known fits is (inr (bytes, read, inl (source, _))) =
+      let same : bytes ≡ text = told_is (files.bytes (program_of line)) text bytes known read.0 in
+      with_reading fault end (refused bytes fault end (subst (λ (b : List ℕ). IsSourceFault b fault) (sym same) is) source)
+  faulty_ends files out line printed text fault end known fits is (inr (bytes, read, inr (program, source, _))) =
+      let same : bytes ≡ text = told_is (files.bytes (program_of line)) text bytes known read.0 in
+      absurd (never_both bytes program fault source (subst (λ (b : List ℕ). IsSourceFault b fault) (sym same) is))
+  faulty_ends files out line printed text fault (TooLong long) known fits is (inl ((_, (came, consumed, above)), _)) = absurd (not_longer (files.bytes (program_of line)) text (limit_of Program) known fits (longer (files.bytes (program_of line)) files.left came (limit_of Program) consumed above))
+  faulty_ends files out line printed text fault ReadFault known fits is (inl h) = inr (inl refl)
+  faulty_ends files out line printed text fault NoMemory known fits is (inl h) = inr (inr refl)
+  faulty_ends files out line printed text fault Done known fits is (inl (h, _)) = absurd h
+  faulty_ends files out line printed text fault Usage known fits is (inl (h, _)) = absurd h
+  faulty_ends files out line printed text fault (Source found) known fits is (inl (h, _)) = absurd h
+  faulty_ends files out line printed text fault Rejected known fits is (inl (h, _)) = absurd h
+  faulty_ends files out line printed text fault WriteFault known fits is (inl (h, _)) = absurd h
+
+  pub faulty_is_source : FaultyIsSource
+  faulty_is_source files out line printed text fault end known fits is h = faulty_ends files out line printed text fault end known fits is (begins files out line end printed h)

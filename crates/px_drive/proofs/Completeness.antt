@@ -1,33 +1,24 @@
 -- A line whose work can be done is done, where no count of faults rose.
-use Rattle.std.proofs.Common.{◌≡◌, ◌≤◌, ℕ, ◌⊎◌, List, length, Option, None, Some, Result, Ok, Err, inl, inr, refl, ap, subst, sym, ◌∙◌, arith}
+use Rattle.std.proofs.Common.{◌≡◌, ℕ, ◌⊎◌, List, Option, None, Some, Result, Ok, Err, inl, inr, refl, ap, subst, sym, ◌∙◌}
 use Rattle.px_terms.specs.declared.program.Program.{Program}
 use Rattle.px_terms.specs.Spelling.{IsDerivationText}
-use Rattle.px_world.specs.Known.{Told, IsLonger}
 use Rattle.px_world.specs.Faults.{Rose}
-use Rattle.px_replay.specs.Thin.{IsThinSource}
 use Rattle.px_drive.specs.declared.outcome.CommandLine.{CommandLine}
-use Rattle.px_drive.specs.declared.outcome.CommandLine.TheVariants.{Replay}
+use Rattle.px_drive.specs.declared.outcome.CommandLine.TheVariants.{Check, Replay}
 use Rattle.px_drive.specs.declared.outcome.Which.{Which}
 use Rattle.px_drive.specs.declared.outcome.Which.TheVariants as which
 use Rattle.px_drive.specs.declared.outcome.End.{End}
 use Rattle.px_drive.specs.declared.outcome.End.TheVariants.{Done, Usage, Source, Rejected, ReadFault, WriteFault, NoMemory, TooLong}
-use Rattle.px_drive.specs.declared.outcome.SourceFault.TheVariants.{Unbuilt}
 use Rattle.px_drive.specs.declared.outcome.Outcome.{Outcome}
 use Rattle.px_drive.specs.Lines.{line_of}
-use Rattle.px_drive.specs.Messages.{accepted_line}
+use Rattle.px_drive.specs.Messages.{checked_line, accepted_line}
 use Rattle.px_drive.specs.Seen.{FilesSeen, SinkSeen}
-use Rattle.px_drive.specs.Ends.{limit_of, ReadsText, Sources, Accepts, Prints, AndThen, LineEnds}
+use Rattle.px_drive.specs.Ends.{limit_of, ReadsText, Accepts, Prints, LineEnds}
+use Rattle.px_drive.specs.Sources.{IsSource, Sources}
+use Rattle.px_drive.specs.Laws.{OneSource, NeverBoth}
 use Rattle.px_drive.specs.Answers.{EndsUnread, Ends, Tells, IsAnswer}
-use Rattle.px_drive.specs.Completeness.{NoneRose, HasText, CanBeDone, replayed, IsDone}
-use Rattle.px_drive.proofs.Causes.{longer}
-
-told_is : (known : Option (List ℕ)) (text bytes : List ℕ) → known ≡ Some text → Told known bytes → bytes ≡ text
-told_is None text bytes known told = cc
-told_is (Some whole) text bytes known told = told ∙ (let same : whole ≡ text = cc in same)
-
-not_longer : (known : Option (List ℕ)) (text : List ℕ) (limit : ℕ) → known ≡ Some text → length text ≤ limit → IsLonger known limit → ⊥
-not_longer None text limit known fits above = cc
-not_longer (Some whole) text limit known fits above = let same : whole ≡ text = cc in omega (arith, ap length same)
+use Rattle.px_drive.specs.Completeness.{NoneRose, HasText, CanBeDone, checked, replayed, IsDone}
+use Rattle.px_drive.proofs.Causes.{longer, told_is, not_longer}
 
 -- a text that is told and within its limit is read whole, but for want of memory
 read_whole : (text : Which) (files : FilesSeen) (name bytes : List ℕ) (result : Result (List ℕ) End) → HasText files text name bytes → ¬ Rose files.before files.after → ReadsText text files name result → (result ≡ Ok bytes) ⊎ (result ≡ Err NoMemory)
@@ -49,19 +40,20 @@ same_bytes : (result : Result (List ℕ) End) (read bytes : List ℕ) → result
 same_bytes result read bytes ends (inl is) = cc
 same_bytes result read bytes ends (inr is) = cc
 
-source_ends : (bytes : List ℕ) (end : End) → Sources bytes (Err end) → IsDone end
-source_ends bytes (Source Unbuilt) h = inr (inr refl)
-source_ends bytes NoMemory h = inr (inl refl)
-source_ends bytes Done h = absurd h
-source_ends bytes Usage h = absurd h
-source_ends bytes Rejected h = absurd h
-source_ends bytes ReadFault h = absurd h
-source_ends bytes WriteFault h = absurd h
-source_ends bytes (TooLong text) h = absurd h
+-- the text of a program is refused only for want of memory
+source_ends : NeverBoth → (text : List ℕ) (program : Program) (end : End) → IsSource text program → Sources text (Err end) → IsDone end
+source_ends never_both text program (Source fault) source h = absurd (never_both text program fault source h)
+source_ends never_both text program NoMemory source h = inr refl
+source_ends never_both text program Done source h = absurd h
+source_ends never_both text program Usage source h = absurd h
+source_ends never_both text program Rejected source h = absurd h
+source_ends never_both text program ReadFault source h = absurd h
+source_ends never_both text program WriteFault source h = absurd h
+source_ends never_both text program (TooLong long) source h = absurd h
 
 accepts_ends : (program : Program) (bytes : List ℕ) (end : End) → IsDerivationText program bytes → Accepts program bytes (Err end) → IsDone end
 accepts_ends program bytes Rejected derivation h = absurd (h derivation)
-accepts_ends program bytes NoMemory derivation h = inr (inl refl)
+accepts_ends program bytes NoMemory derivation h = inr refl
 accepts_ends program bytes Done derivation h = absurd h
 accepts_ends program bytes Usage derivation h = absurd h
 accepts_ends program bytes (Source fault) derivation h = absurd h
@@ -79,23 +71,40 @@ prints_ends line out Rejected printed calm h = absurd h
 prints_ends line out ReadFault printed calm h = absurd h
 prints_ends line out (TooLong text) printed calm h = absurd h
 
-module _ (files : FilesSeen) (out : SinkSeen) (calm : ¬ Rose files.before files.after) (calm_out : ¬ Rose out.before out.after) where
-  replay_done : (file derivation text steps : List ℕ) (end : End) (printed : List ℕ) → HasText files which.Program file text → HasText files which.Derivation derivation steps → ((program : Program) → IsThinSource text program → IsDerivationText program steps) → LineEnds files out (Replay file derivation) end printed → IsDone end
-  replay_done file derivation text steps end printed has_text has_steps derives (inl (reads, _)) = inr (inl (no_memory (Err end) end text refl (read_whole which.Program files file text (Err end) has_text calm reads)))
-  replay_done file derivation text steps end printed has_text has_steps derives (inr (read, _, inl (source, _))) = source_ends read end source
-  replay_done file derivation text steps end printed has_text has_steps derives (inr (read, _, inr (program, _, inl (reads, _)))) = inr (inl (no_memory (Err end) end steps refl (read_whole which.Derivation files derivation steps (Err end) has_steps calm reads)))
-  replay_done file derivation text steps end printed has_text has_steps derives (inr (read, reads, inr (program, source, inr (rows, rows_read, inl (accepts, _))))) =
-      let text_is : read ≡ text = same_bytes (Ok read) read text refl (read_whole which.Program files file text (Ok read) has_text calm reads) in
-      let steps_is : rows ≡ steps = same_bytes (Ok rows) rows steps refl (read_whole which.Derivation files derivation steps (Ok rows) has_steps calm rows_read) in
-      accepts_ends program rows end (subst (IsDerivationText program) (sym steps_is) (derives program (subst (λ (bytes : List ℕ). IsThinSource bytes program) text_is source))) accepts
-  replay_done file derivation text steps end printed has_text has_steps derives (inr (read, _, inr (program, _, inr (rows, _, inr (n, _, prints))))) = prints_ends (accepted_line n) out end printed calm_out prints
+-- the words for what is read of a text that is told
+module _ (files : FilesSeen) (calm : ¬ Rose files.before files.after) (which : Which) (name text : List ℕ) (has : HasText files which name text) where
+  reading_done : (end : End) → ReadsText which files name (Err end) → IsDone end
+  reading_done end reads = inr (no_memory (Err end) end text refl (read_whole which files name text (Err end) has calm reads))
+
+  is_read : (read : List ℕ) → ReadsText which files name (Ok read) → text ≡ read
+  is_read read reads = sym (same_bytes (Ok read) read text refl (read_whole which files name text (Ok read) has calm reads))
+
+module _ (one_source : OneSource) (never_both : NeverBoth) (files : FilesSeen) (out : SinkSeen) (calm : ¬ Rose files.before files.after) (calm_out : ¬ Rose out.before out.after) where
+  check_done : (file text : List ℕ) (program : Program) (end : End) (printed : List ℕ) → HasText files which.Program file text → IsSource text program → LineEnds files out (Check file) end printed → IsDone end
+  check_done file text program end printed has source (inl (reads, _)) = reading_done files calm which.Program file text has end reads
+  check_done file text program end printed has source (inr (read, reads, inl (refuses, _))) =
+      source_ends never_both read program end (subst (λ (bytes : List ℕ). IsSource bytes program) (is_read files calm which.Program file text has read reads) source) refuses
+  check_done file text program end printed has source (inr (read, reads, inr (found, _, prints))) = prints_ends (checked_line found) out end printed calm_out prints
+
+  replay_done : (file derivation text steps : List ℕ) (program : Program) (end : End) (printed : List ℕ) → HasText files which.Program file text → HasText files which.Derivation derivation steps → IsSource text program → IsDerivationText program steps → LineEnds files out (Replay file derivation) end printed → IsDone end
+  replay_done file derivation text steps program end printed has has_steps source derives (inl (reads, _)) = reading_done files calm which.Program file text has end reads
+  replay_done file derivation text steps program end printed has has_steps source derives (inr (read, reads, inl (refuses, _))) =
+      source_ends never_both read program end (subst (λ (bytes : List ℕ). IsSource bytes program) (is_read files calm which.Program file text has read reads) source) refuses
+  replay_done file derivation text steps program end printed has has_steps source derives (inr (read, _, inr (found, _, inl (reads, _)))) = reading_done files calm which.Derivation derivation steps has_steps end reads
+  replay_done file derivation text steps program end printed has has_steps source derives (inr (read, reads, inr (found, finds, inr (rows, rows_read, inl (accepts, _))))) =
+      let here : IsSource read program = subst (λ (bytes : List ℕ). IsSource bytes program) (is_read files calm which.Program file text has read reads) source in
+      let one : program ≡ found = one_source read program found here finds in
+      let derived : IsDerivationText program rows = subst (IsDerivationText program) (is_read files calm which.Derivation derivation steps has_steps rows rows_read) derives in
+      accepts_ends found rows end (subst (λ (P : Program). IsDerivationText P rows) one derived) accepts
+  replay_done file derivation text steps program end printed has has_steps source derives (inr (read, _, inr (found, _, inr (rows, _, inr (n, _, prints))))) = prints_ends (accepted_line n) out end printed calm_out prints
 
   line_done : (line : CommandLine) (end : End) (printed : List ℕ) → CanBeDone files line → LineEnds files out line end printed → IsDone end
-  line_done _ end printed (replayed {file = file} {derivation = derivation} text steps has_text has_steps derives) ends = replay_done file derivation text steps end printed has_text has_steps derives ends
+  line_done _ end printed (checked {file = file} text program has source) ends = check_done file text program end printed has source ends
+  line_done _ end printed (replayed {file = file} {derivation = derivation} text steps program has has_steps source derives) ends = replay_done file derivation text steps program end printed has has_steps source derives ends
 
 unread_done : (words : List (List ℕ)) (line : CommandLine) (end : End) → line_of words ≡ Some line → EndsUnread words end → IsDone end
 unread_done words line Usage is none = cc
-unread_done words line NoMemory is h = inr (inl refl)
+unread_done words line NoMemory is h = inr refl
 unread_done words line Done is h = absurd h
 unread_done words line (Source fault) is h = absurd h
 unread_done words line Rejected is h = absurd h
@@ -103,17 +112,17 @@ unread_done words line ReadFault is h = absurd h
 unread_done words line WriteFault is h = absurd h
 unread_done words line (TooLong text) is h = absurd h
 
-allowed_done : (words : List (List ℕ)) (files : FilesSeen) (out err : SinkSeen) (kept : Option CommandLine) (end : End) (line : CommandLine) → NoneRose files out err → line_of words ≡ Some line → CanBeDone files line → Ends words files out kept end → IsDone end
-allowed_done words files out err None end line calm is can ends = unread_done words line end is ends.0
-allowed_done words files out err (Some kept) end line calm is can ends =
+allowed_done : OneSource → NeverBoth → (words : List (List ℕ)) (files : FilesSeen) (out err : SinkSeen) (kept : Option CommandLine) (end : End) (line : CommandLine) → NoneRose files out err → line_of words ≡ Some line → CanBeDone files line → Ends words files out kept end → IsDone end
+allowed_done one_source never_both words files out err None end line calm is can ends = unread_done words line end is ends.0
+allowed_done one_source never_both words files out err (Some kept) end line calm is can ends =
     let same : kept ≡ line = let both : Some kept ≡ Some line = sym ends.0 ∙ is in cc in
-    line_done files out calm.files_rest calm.out_rests kept end ends.1.printed (subst (CanBeDone files) (sym same) can) ends.1.allowed
+    line_done one_source never_both files out calm.files_rest calm.out_rests kept end ends.1.printed (subst (CanBeDone files) (sym same) can) ends.1.allowed
 
 told_stays : (told : End) (err : SinkSeen) (end : End) → ¬ Rose err.before err.after → Tells told err end → end ≡ told
 told_stays told err end calm (inl tells) = tells.0
 told_stays told err end calm (inr tells) = absurd (calm tells.2)
 
--- a plain line whose work can be done ends Done where no count rose, but for want of memory and a program that is not read
-pub answer_done : (words : List (List ℕ)) (files : FilesSeen) (out err : SinkSeen) (outcome : Outcome) → IsAnswer words files out err outcome → (line : CommandLine) → line_of words ≡ Some line → CanBeDone files line → NoneRose files out err → IsDone outcome.end
-answer_done words files out err outcome answer line is can calm =
-    subst IsDone (sym (told_stays answer.told err outcome.end calm.err_rests answer.tells)) (allowed_done words files out err outcome.line answer.told line calm is can answer.allowed)
+-- a plain line whose work can be done ends Done where no count rose, but for want of memory
+pub answer_done : OneSource → NeverBoth → (words : List (List ℕ)) (files : FilesSeen) (out err : SinkSeen) (outcome : Outcome) → IsAnswer words files out err outcome → (line : CommandLine) → line_of words ≡ Some line → CanBeDone files line → NoneRose files out err → IsDone outcome.end
+answer_done one_source never_both words files out err outcome answer line is can calm =
+    subst IsDone (sym (told_stays answer.told err outcome.end calm.err_rests answer.tells)) (allowed_done one_source never_both words files out err outcome.line answer.told line calm is can answer.allowed)

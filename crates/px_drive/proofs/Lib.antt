@@ -1,4 +1,5 @@
 pub mod Pieces
+pub mod Sources
 pub mod Chains
 pub mod Causes
 pub mod Truths

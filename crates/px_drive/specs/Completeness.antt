@@ -3,16 +3,15 @@ use Rattle.std.specs.Prelude.{◌≡◌, ◌≤◌, ◌⊎◌, ℕ, List, length
 use Rattle.px_terms.specs.declared.program.Program.{Program}
 use Rattle.px_terms.specs.Spelling.{IsDerivationText}
 use Rattle.px_world.specs.Faults.{Rose}
-use Rattle.px_replay.specs.Thin.{IsThinSource}
 use Rattle.px_drive.specs.declared.outcome.CommandLine.{CommandLine}
-use Rattle.px_drive.specs.declared.outcome.CommandLine.TheVariants.{Replay}
+use Rattle.px_drive.specs.declared.outcome.CommandLine.TheVariants.{Check, Replay}
 use Rattle.px_drive.specs.declared.outcome.Which.{Which}
 use Rattle.px_drive.specs.declared.outcome.Which.TheVariants as which
 use Rattle.px_drive.specs.declared.outcome.End.{End}
-use Rattle.px_drive.specs.declared.outcome.End.TheVariants.{Done, Source, NoMemory}
-use Rattle.px_drive.specs.declared.outcome.SourceFault.TheVariants.{Unbuilt}
+use Rattle.px_drive.specs.declared.outcome.End.TheVariants.{Done, NoMemory}
 use Rattle.px_drive.specs.Seen.{FilesSeen, SinkSeen}
 use Rattle.px_drive.specs.Ends.{limit_of}
+use Rattle.px_drive.specs.Sources.{IsSource}
 
 -- no count of faults rose in the call
 pub record NoneRose (files : FilesSeen) (out err : SinkSeen) : Type 0 where
@@ -27,8 +26,9 @@ pub record HasText (files : FilesSeen) (which : Which) (name text : List ℕ) : 
 
 -- the line's texts are told and within their limits, and they ask for work that can be done: a row for each command
 pub data CanBeDone (files : FilesSeen) : CommandLine → Type 0 where
-  replayed : {file derivation : List ℕ} (text steps : List ℕ) → HasText files which.Program file text → HasText files which.Derivation derivation steps → ((program : Program) → IsThinSource text program → IsDerivationText program steps) → CanBeDone files (Replay file derivation)
+  checked : {file : List ℕ} (text : List ℕ) (program : Program) → HasText files which.Program file text → IsSource text program → CanBeDone files (Check file)
+  replayed : {file derivation : List ℕ} (text steps : List ℕ) (program : Program) → HasText files which.Program file text → HasText files which.Derivation derivation steps → IsSource text program → IsDerivationText program steps → CanBeDone files (Replay file derivation)
 
--- the work is done, but for want of memory and for a program that is not read
+-- the work is done, but for want of memory
 abbrev pub IsDone : End → Type 0
-IsDone end = (end ≡ Done) ⊎ ((end ≡ NoMemory) ⊎ (end ≡ Source Unbuilt))
+IsDone end = (end ≡ Done) ⊎ (end ≡ NoMemory)

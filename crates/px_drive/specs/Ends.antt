@@ -7,16 +7,15 @@ use Rattle.px_terms.specs.declared.limits.TheConstants.{PROGRAM_BYTES, DERIVATIO
 use Rattle.px_terms.specs.Spelling.{IsDerivationText}
 use Rattle.px_world.specs.Known.{Told}
 use Rattle.px_world.specs.Faults.{Rose}
-use Rattle.px_replay.specs.Thin.{IsThinSource}
 use Rattle.px_drive.specs.declared.outcome.CommandLine.{CommandLine}
-use Rattle.px_drive.specs.declared.outcome.CommandLine.TheVariants.{Replay}
+use Rattle.px_drive.specs.declared.outcome.CommandLine.TheVariants.{Check, Replay}
 use Rattle.px_drive.specs.declared.outcome.Which.{Which}
 use Rattle.px_drive.specs.declared.outcome.Which.TheVariants as which
 use Rattle.px_drive.specs.declared.outcome.End.{End}
-use Rattle.px_drive.specs.declared.outcome.End.TheVariants.{Done, Source, Rejected, ReadFault, WriteFault, NoMemory, TooLong}
-use Rattle.px_drive.specs.declared.outcome.SourceFault.TheVariants.{Unbuilt}
-use Rattle.px_drive.specs.Messages.{accepted_line}
+use Rattle.px_drive.specs.declared.outcome.End.TheVariants.{Done, Rejected, ReadFault, WriteFault, NoMemory, TooLong}
+use Rattle.px_drive.specs.Messages.{checked_line, accepted_line}
 use Rattle.px_drive.specs.Seen.{FilesSeen, SinkSeen}
+use Rattle.px_drive.specs.Sources.{Sources}
 
 -- how many bytes a text may have
 abbrev pub limit_of : Which → ℕ
@@ -31,13 +30,6 @@ ReadsText text files name (Err (TooLong long)) = (long ≡ text) × ((came : Lis
 ReadsText text files name (Err ReadFault) = Rose files.before files.after × (IsTrue files.opened → (came : List ℕ) × Consumes (files.bytes name) files.left came × (length came ≤ limit_of text))
 ReadsText text files name (Err NoMemory) = ⊤
 ReadsText text files name (Err _) = ⊥
-
--- the program of the bytes
-abbrev pub Sources : List ℕ → Result Program End → Type 0
-Sources bytes (Ok program) = IsThinSource bytes program
-Sources bytes (Err (Source Unbuilt)) = ⊤
-Sources bytes (Err NoMemory) = ⊤
-Sources bytes (Err _) = ⊥
 
 -- the number of obligations of a program of which the bytes are a derivation; or the bytes are none
 abbrev pub Accepts : Program → List ℕ → Result ℕ End → Type 0
@@ -58,6 +50,10 @@ AndThen {T} stage rest end printed = (stage (Err end) × (printed ≡ [])) ⊎ (
 
 -- where a line ends, and what it printed: a row for each command
 abbrev pub LineEnds : FilesSeen → SinkSeen → CommandLine → End → List ℕ → Type 0
+LineEnds files out (Check file) =
+    AndThen (ReadsText which.Program files file) (λ text.
+    AndThen (Sources text) (λ program.
+    Prints (checked_line program) out))
 LineEnds files out (Replay file derivation) =
     AndThen (ReadsText which.Program files file) (λ text.
     AndThen (Sources text) (λ program.

@@ -1,20 +1,42 @@
--- What the table of causes says of every call.
-use Rattle.std.specs.Prelude.{◌≡◌, ◌≢◌, ℕ, ◌<◌, ◌⊎◌, List, [], length, ⊤, Option, None, Some}
+-- What the sources of programs are, and what the table of causes says of every call.
+use Rattle.std.specs.Prelude.{◌≡◌, ◌≢◌, ℕ, ◌<◌, ◌≤◌, ◌⊎◌, List, [], length, ⊤, Option, None, Some}
 use Rattle.px_terms.specs.declared.program.Program.{Program}
+use Rattle.px_terms.specs.Obligations.{AllHold}
 use Rattle.px_terms.specs.Spelling.{IsDerivationText}
 use Rattle.px_world.specs.Known.{Told, IsLonger}
-use Rattle.px_replay.specs.Thin.{IsThinSource}
 use Rattle.px_drive.specs.declared.outcome.CommandLine.{CommandLine}
-use Rattle.px_drive.specs.declared.outcome.CommandLine.TheVariants.{Replay}
+use Rattle.px_drive.specs.declared.outcome.CommandLine.TheVariants.{Check, Replay}
 use Rattle.px_drive.specs.declared.outcome.Which.TheVariants as which
 use Rattle.px_drive.specs.declared.outcome.End.{End}
 use Rattle.px_drive.specs.declared.outcome.End.TheVariants.{Done, Usage, Source, Rejected, ReadFault, WriteFault, NoMemory, TooLong}
-use Rattle.px_drive.specs.declared.outcome.SourceFault.TheVariants.{Unbuilt}
+use Rattle.px_drive.specs.declared.outcome.SourceFault.{SourceFault}
 use Rattle.px_drive.specs.Lines.{line_of}
-use Rattle.px_drive.specs.Messages.{accepted_line}
+use Rattle.px_drive.specs.Messages.{checked_line, accepted_line}
 use Rattle.px_drive.specs.Seen.{FilesSeen, SinkSeen}
+use Rattle.px_drive.specs.Sources.{IsSource, IsSourceFault}
 use Rattle.px_drive.specs.Ends.{limit_of, LineEnds}
 use Rattle.px_drive.specs.Answers.{Ends}
+
+-- a text is at most one program
+abbrev pub OneSource : Type 0
+OneSource = (text : List ℕ) (P Q : Program) → IsSource text P → IsSource text Q → P ≡ Q
+
+-- a text has at most one fault
+abbrev pub OneSourceFault : Type 0
+OneSourceFault = (text : List ℕ) (one other : SourceFault) → IsSourceFault text one → IsSourceFault text other → one ≡ other
+
+-- no text is a program and has a fault
+abbrev pub NeverBoth : Type 0
+NeverBoth = (text : List ℕ) (P : Program) (fault : SourceFault) → IsSource text P → IsSourceFault text fault → ⊥
+
+-- a derivation of the program of a text shows that each of its obligations holds
+abbrev pub AcceptedIsTrue : Type 0
+AcceptedIsTrue = (text derivation : List ℕ) (P : Program) → IsSource text P → IsDerivationText P derivation → AllHold P
+
+-- the word of a line that names the file of its program
+abbrev pub program_of : CommandLine → List ℕ
+program_of (Check file) = file
+program_of (Replay file derivation) = file
 
 -- Usage comes only where the words are no plain line, and there nothing else comes but want of memory
 abbrev pub UsageByWords : Type 0
@@ -28,8 +50,14 @@ DoneOrUsage = (words : List (List ℕ)) (files others : FilesSeen) (out other : 
 
 -- the ends that are named for a command: a row for each command and end
 abbrev pub IsNamed : CommandLine → End → Type 0
+IsNamed (Check _) Done = ⊤
+IsNamed (Check _) (Source _) = ⊤
+IsNamed (Check _) ReadFault = ⊤
+IsNamed (Check _) WriteFault = ⊤
+IsNamed (Check _) NoMemory = ⊤
+IsNamed (Check _) (TooLong which.Program) = ⊤
 IsNamed (Replay _ _) Done = ⊤
-IsNamed (Replay _ _) (Source Unbuilt) = ⊤
+IsNamed (Replay _ _) (Source _) = ⊤
 IsNamed (Replay _ _) Rejected = ⊤
 IsNamed (Replay _ _) ReadFault = ⊤
 IsNamed (Replay _ _) WriteFault = ⊤
@@ -42,6 +70,34 @@ IsNamed _ _ = ⊥
 abbrev pub EndsAreNamed : Type 0
 EndsAreNamed = (files : FilesSeen) (out : SinkSeen) (line : CommandLine) (end : End) (printed : List ℕ) → LineEnds files out line end printed → IsNamed line end
 
+-- the program's text was refused: the bytes that were read, which are the file's where these are told, have this fault
+pub record IsFaulty (files : FilesSeen) (file : List ℕ) (fault : SourceFault) : Type 0 where
+  pub text : List ℕ
+  pub text_is : Told (files.bytes file) text
+  pub is_fault : IsSourceFault text fault
+
+-- where a line ends with a fault of the program's text, the text has it
+abbrev pub SourceIsFaulty : Type 0
+SourceIsFaulty = (files : FilesSeen) (out : SinkSeen) (line : CommandLine) (printed : List ℕ) (fault : SourceFault) → LineEnds files out line (Source fault) printed → IsFaulty files (program_of line) fault
+
+-- a program's text that is told, within its limit, and has a fault is refused for it, but for a fault of reading or want of
+-- memory
+abbrev pub FaultyIsSource : Type 0
+FaultyIsSource = (files : FilesSeen) (out : SinkSeen) (line : CommandLine) (printed text : List ℕ) (fault : SourceFault) (end : End) → files.bytes (program_of line) ≡ Some text → length text ≤ limit_of which.Program
+    → IsSourceFault text fault → LineEnds files out line end printed → (end ≡ Source fault) ⊎ ((end ≡ ReadFault) ⊎ (end ≡ NoMemory))
+
+-- `check` did its work: the text is a program, it is the file's where this is told, and the counts were printed
+pub record IsChecked (files : FilesSeen) (file printed : List ℕ) : Type 0 where
+  pub text : List ℕ
+  pub program : Program
+  pub text_is : Told (files.bytes file) text
+  pub is_source : IsSource text program
+  pub printed_is : printed ≡ checked_line program
+
+-- where `check` ends Done, it did its work
+abbrev pub DoneIsChecked : Type 0
+DoneIsChecked = (files : FilesSeen) (out : SinkSeen) (file printed : List ℕ) → LineEnds files out (Check file) Done printed → IsChecked files file printed
+
 -- `replay` did its work: the derivation is one of the program, both are those of the files where these tell their
 -- bytes, and the number of obligations was printed
 pub record IsReplayed (files : FilesSeen) (file derivation printed : List ℕ) : Type 0 where
@@ -50,7 +106,7 @@ pub record IsReplayed (files : FilesSeen) (file derivation printed : List ℕ) :
   pub program : Program
   pub text_is : Told (files.bytes file) text
   pub steps_is : Told (files.bytes derivation) steps
-  pub is_source : IsThinSource text program
+  pub is_source : IsSource text program
   pub is_derivation : IsDerivationText program steps
   pub printed_is : printed ≡ accepted_line (length program.declared)
 
@@ -66,7 +122,7 @@ pub record IsRefused (files : FilesSeen) (file derivation : List ℕ) : Type 0 w
   pub program : Program
   pub text_is : Told (files.bytes file) text
   pub steps_is : Told (files.bytes derivation) steps
-  pub is_source : IsThinSource text program
+  pub is_source : IsSource text program
   pub is_none : ¬ IsDerivationText program steps
 
 -- where `replay` ends Rejected, the derivation was refused for its cause
@@ -75,14 +131,14 @@ RejectedIsRefused = (files : FilesSeen) (out : SinkSeen) (file derivation printe
 
 -- a text that is told is too long only where it has more bytes than its limit
 abbrev pub TooLongIsLonger : Type 0
-TooLongIsLonger = (files : FilesSeen) (out : SinkSeen) (file derivation printed : List ℕ)
-    → (LineEnds files out (Replay file derivation) (TooLong which.Program) printed → IsLonger (files.bytes file) (limit_of which.Program))
+TooLongIsLonger = (files : FilesSeen) (out : SinkSeen) (line : CommandLine) (file derivation printed : List ℕ)
+    → (LineEnds files out line (TooLong which.Program) printed → IsLonger (files.bytes (program_of line)) (limit_of which.Program))
     × (LineEnds files out (Replay file derivation) (TooLong which.Derivation) printed → IsLonger (files.bytes derivation) (limit_of which.Derivation))
 
 -- a program that is told and has more bytes than its limit is too long, but for a fault or want of memory
 abbrev pub LongIsTooLong : Type 0
-LongIsTooLong = (files : FilesSeen) (out : SinkSeen) (file derivation printed text : List ℕ) (end : End) → files.bytes file ≡ Some text → limit_of which.Program < length text
-    → LineEnds files out (Replay file derivation) end printed → (end ≡ TooLong which.Program) ⊎ ((end ≡ ReadFault) ⊎ (end ≡ NoMemory))
+LongIsTooLong = (files : FilesSeen) (out : SinkSeen) (line : CommandLine) (printed text : List ℕ) (end : End) → files.bytes (program_of line) ≡ Some text → limit_of which.Program < length text
+    → LineEnds files out line end printed → (end ≡ TooLong which.Program) ⊎ ((end ≡ ReadFault) ⊎ (end ≡ NoMemory))
 
 -- an end that comes before a derivation was read whole
 abbrev pub EndsEarly : End → Type 0
@@ -98,5 +154,5 @@ LongIsNotReplayed = (files : FilesSeen) (out : SinkSeen) (file derivation printe
 
 -- a refusal prints nothing, but for a failed write
 abbrev pub RefusalsPrintNothing : Type 0
-RefusalsPrintNothing = (files : FilesSeen) (out : SinkSeen) (file derivation printed : List ℕ) (end : End) → LineEnds files out (Replay file derivation) end printed
+RefusalsPrintNothing = (files : FilesSeen) (out : SinkSeen) (line : CommandLine) (printed : List ℕ) (end : End) → LineEnds files out line end printed
     → end ≢ Done → end ≢ WriteFault → printed ≡ []

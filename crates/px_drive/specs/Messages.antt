@@ -1,32 +1,54 @@
 -- What an end prints, and its status.
-use Rattle.std.specs.Prelude.{ℕ, List, [], ◌++◌, codes}
+use Rattle.std.specs.Prelude.{ℕ, ◌-◌, List, [], ◌++◌, length, codes}
 use Rattle.std.specs.List.{flat_map}
 use Rattle.std.specs.Fmt.{decimal}
 use Rattle.std.specs.Borrow.{Bor}
+use Rattle.px_terms.specs.declared.program.Program.{Program}
+use Rattle.px_scope.specs.declared.ends.ScopeKind.{ScopeKind}
+use Rattle.px_scope.specs.declared.ends.ScopeKind.TheVariants.{Unknown, Repeated, Later, WrongPlace}
 use Rattle.px_drive.specs.declared.outcome.End.{End}
 use Rattle.px_drive.specs.declared.outcome.End.TheVariants.{Done, Usage, Source, Rejected, ReadFault, WriteFault, NoMemory, TooLong}
-use Rattle.px_drive.specs.declared.outcome.SourceFault.TheVariants.{Unbuilt}
-use Rattle.px_drive.specs.declared.outcome.Which.TheVariants.{Program, Derivation}
+use Rattle.px_drive.specs.declared.outcome.SourceFault.{SourceFault}
+use Rattle.px_drive.specs.declared.outcome.SourceFault.TheVariants.{Lex, Parse, Scope, Unbuilt}
+use Rattle.px_drive.specs.declared.outcome.Which.TheVariants as which
 
 -- the bytes of pieces, one after the other
 abbrev pub bytes_of_all : List (Bor (List ℕ)) → List ℕ
 bytes_of_all pieces = flat_map (λ piece. piece.now) pieces
 
+-- what `check` prints where it is done, of the program: how many datatypes besides `Bool`, definitions and obligations it has
+abbrev pub checked_line : Program → List ℕ
+checked_line P = codes "checked: datatypes " ++ (decimal (length P.datatypes - 1) ++ (codes ", definitions " ++ (decimal (length P.defs) ++ (codes ", obligations " ++ (decimal (length P.declared) ++ codes "\n")))))
+
 -- what `replay` prints where it is done, of so many obligations
 abbrev pub accepted_line : ℕ → List ℕ
 accepted_line n = codes "accepted " ++ (decimal n ++ codes "\n")
 
+-- a rule of scope, in words
+abbrev pub scope_words : ScopeKind → List ℕ
+scope_words Unknown = codes "unknown"
+scope_words Repeated = codes "repeated"
+scope_words Later = codes "later"
+scope_words WrongPlace = codes "wrong-place"
+
+-- the line of a text that is no program, with its line feed
+abbrev pub source_line : SourceFault → List ℕ
+source_line (Lex at) = codes "source: lex at " ++ (decimal at ++ codes "\n")
+source_line (Parse at) = codes "source: parse at " ++ (decimal at ++ codes "\n")
+source_line (Scope kind at) = codes "source: scope " ++ (scope_words kind ++ (codes " at " ++ (decimal at ++ codes "\n")))
+source_line Unbuilt = codes "source: unbuilt\n"
+
 -- the line that an end prints as an error, with its line feed; where the work is done there is none
 abbrev pub message_of : End → List ℕ
 message_of Done = []
-message_of Usage = codes "usage: propel replay F D\n"
-message_of (Source Unbuilt) = codes "source: unbuilt\n"
+message_of Usage = codes "usage: propel check F | replay F D\n"
+message_of (Source fault) = source_line fault
 message_of Rejected = codes "rejected\n"
 message_of ReadFault = codes "read fault\n"
 message_of WriteFault = codes "write fault\n"
 message_of NoMemory = codes "no memory\n"
-message_of (TooLong Program) = codes "too long: program\n"
-message_of (TooLong Derivation) = codes "too long: derivation\n"
+message_of (TooLong which.Program) = codes "too long: program\n"
+message_of (TooLong which.Derivation) = codes "too long: derivation\n"
 
 -- the status that the program ends with
 abbrev pub status_of : End → ℕ

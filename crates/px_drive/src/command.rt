@@ -8,10 +8,10 @@ ghost use Rattle.px_drive.specs.Completeness.{NoneRose, CanBeDone, IsDone};
 ghost use Rattle.px_drive.specs.declared.outcome.CommandLine.{CommandLine};
 
 use crate::chain::run_line;
+use crate::laws::{accepted_is_true, never_both, one_source};
 use crate::line::read_line;
 use crate::messages::report;
 use crate::{End, Outcome};
-use px_replay::accepted_is_true;
 use px_world::{Files, Sink};
 use std::alloc::Global;
 
@@ -31,7 +31,7 @@ use std::alloc::Global;
 /// It takes memory for the line, the texts and the work, and none for what it prints. Which bytes a name
 /// has and which names may be opened is unchanged.
 ///
-/// Where it is done, every declared property of the program read holds in the language's meaning, for all values.
+/// Where `replay` is done, every declared property of the program read holds in the language's meaning, for all values.
 pub fn drive<F: Files, O: Sink, E: Sink>(
     alloc: Global,
     words: &Vec<String>,
@@ -94,6 +94,8 @@ pub fn drive<F: Files, O: Sink, E: Sink>(
     ensures err_later { E.faults err.old ≤ E.faults err.new }
 {
     accepted_is_true();
+    one_source();
+    never_both();
     answer(alloc, words, files, out, err)
 }
 

@@ -1,6 +1,58 @@
-//! What the table of causes says of every call, as functions whose contracts are these laws.
+//! What the sources of programs are, and what the table of causes says of every call, as functions whose contracts are
+//! these laws.
 
-ghost use Rattle.px_drive.specs.Laws.{UsageByWords, DoneOrUsage, EndsAreNamed, DoneIsReplayed, RejectedIsRefused, TooLongIsLonger, LongIsTooLong, LongIsNotReplayed, RefusalsPrintNothing};
+ghost use Rattle.px_drive.specs.Laws.{OneSource, OneSourceFault, NeverBoth, AcceptedIsTrue, UsageByWords, DoneOrUsage, EndsAreNamed, SourceIsFaulty, FaultyIsSource, DoneIsChecked, DoneIsReplayed, RejectedIsRefused, TooLongIsLonger, LongIsTooLong, LongIsNotReplayed, RefusalsPrintNothing};
+
+use px_lexer::one_list;
+use px_parser::one_tree;
+use px_scope::one_numbering;
+use px_terms::derivations_are_sound;
+use px_thin::{one_thin_program, thin_is_plain};
+
+/// A text is at most one program.
+pub fn one_source()
+    ensures { OneSource }
+{
+    one_list();
+    one_tree();
+    one_numbering();
+    one_thin_program();
+}
+
+/// A text has at most one fault.
+pub fn one_source_fault()
+    ensures { OneSourceFault }
+{
+    one_list();
+    px_lexer::one_fault();
+    px_lexer::never_both();
+    one_tree();
+    px_parser::one_fault();
+    px_parser::never_both();
+    one_numbering();
+    px_scope::one_fault();
+    px_scope::never_both();
+}
+
+/// No text is a program and has a fault.
+pub fn never_both()
+    ensures { NeverBoth }
+{
+    one_list();
+    px_lexer::never_both();
+    one_tree();
+    px_parser::never_both();
+    one_numbering();
+    px_scope::never_both();
+}
+
+/// A derivation of the program of a text shows that each of its obligations holds.
+pub fn accepted_is_true()
+    ensures { AcceptedIsTrue }
+{
+    thin_is_plain();
+    derivations_are_sound();
+}
 
 /// `Usage` comes only where the words are no plain line; there nothing else comes but want of memory.
 pub fn usage_is_by_words()
@@ -15,6 +67,25 @@ pub fn done_or_usage()
 /// A line ends in no refusal that isn't named for its command.
 pub fn ends_are_named()
     ensures { EndsAreNamed }
+{}
+
+/// Where a line ends with a fault of the program's text, the bytes that were read have it.
+pub fn source_is_faulty()
+    ensures { SourceIsFaulty }
+{}
+
+/// A program's text that is told, within its limit, and has a fault is refused for it, but for a fault of
+/// reading or want of memory.
+pub fn faulty_is_source()
+    ensures { FaultyIsSource }
+{
+    one_source_fault();
+    never_both();
+}
+
+/// Where `check` ends `Done`, the text is a program, and its counts were printed.
+pub fn done_is_checked()
+    ensures { DoneIsChecked }
 {}
 
 /// Where `replay` ends `Done`, the derivation is one of the program, and the number of obligations was

@@ -1,7 +1,8 @@
 //! The top call. `drive` reads the words of a command line, reads the texts that the line names, does the
 //! command's work, and prints its answer or the one line of its refusal; `status` is the number that the
 //! program ends with. Its contract is the table of causes: in `specs/Ends.antt` a command is a chain of
-//! stages in the order of its refusals, and in `specs/Answers.antt` an outcome is an end of that table.
+//! stages in the order of its refusals, in `specs/Sources.antt` stands which program a text is and why it is none,
+//! and in `specs/Answers.antt` an outcome is an end of that table.
 //! What a program and a derivation are is left to the crates below, and real files to the program above.
 #![tactic(auto)]
 
@@ -10,6 +11,8 @@ mod command;
 pub mod laws;
 mod line;
 mod messages;
+#[cfg(test)]
+mod name_texts;
 mod outcome;
 mod stages;
 #[cfg(test)]

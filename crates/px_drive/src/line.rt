@@ -1,5 +1,5 @@
 ghost use Rattle.std.specs.Prelude.{◌≡◌, map, string_bytes, IfOk};
-ghost use Rattle.px_drive.specs.Lines.{line_of, replay_line, is_file};
+ghost use Rattle.px_drive.specs.Lines.{line_of, check_line, replay_line, is_file};
 
 use crate::CommandLine;
 use px_terms::{NoMemory, Text};
@@ -12,10 +12,24 @@ pub fn read_line(alloc: Global, words: &[String]) -> Result<Option<CommandLine>,
 {
     match words {
         [command, args @ ..] => match command.as_str() {
+            "check" => read_check(alloc, args),
             "replay" => read_replay(alloc, args),
             _ => Ok(None),
         },
         [] => Ok(None),
+    }
+}
+
+/// The line of `check F`, by the words after `check`.
+fn read_check(alloc: Global, args: &[String]) -> Result<Option<CommandLine>, NoMemory>
+    ensures { IfOk result (λ line. line ≡ check_line (map string_bytes args.now)) }
+{
+    match args {
+        [file] if names_file(file.as_str()) => {
+            let file = copy_word(alloc, file.as_str())?;
+            Ok(Some(CommandLine::Check { file }))
+        }
+        _ => Ok(None),
     }
 }
 

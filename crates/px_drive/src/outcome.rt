@@ -1,16 +1,27 @@
+use px_scope::ScopeKind;
 use px_terms::Text;
 
 /// A plain line: the command that the words are, with its arguments.
 #[derive(Drop)]
 pub enum CommandLine {
+    /// `check F`: reads the program in the file F.
+    Check { file: Text },
     /// `replay F D`: replays the derivation in the file D of the program in the file F.
     Replay { file: Text, derivation: Text },
 }
 
-/// Why a program's text was refused.
+/// Why a program's text was refused, by the first layer that refuses it.
 #[derive(Clone, Copy, Debug, PartialEq, Eq)]
 pub enum SourceFault {
-    /// The text isn't of the kind of program that can be read today.
+    /// At this byte of the text no token begins.
+    Lex { at: u32 },
+    /// The token that begins at this byte is the first through which no program begins; or the byte is the text's
+    /// end, and only that is wrong.
+    Parse { at: u32 },
+    /// The name that begins at this byte is the first that breaks a rule of scope, and this is the first rule that
+    /// it breaks.
+    Scope { kind: ScopeKind, at: u32 },
+    /// The text is a program, but not of the kind that can be read today.
     Unbuilt,
 }
 

@@ -1,12 +1,17 @@
 ghost use Rattle.std.specs.Prelude.{◌≡◌, ◌≤◌, length, IfOk, IsTrue};
 ghost use Rattle.px_terms.specs.Numbered.{HasNumbers};
 ghost use Rattle.px_terms.specs.declared.limits.TheConstants.{PROGRAM_BYTES as PROGRAM_LIMIT};
-ghost use Rattle.px_drive.specs.Ends.{limit_of, ReadsText, Sources, Accepts};
+ghost use Rattle.px_drive.specs.Ends.{limit_of, ReadsText, Accepts};
+ghost use Rattle.px_drive.specs.Sources.{Sources};
 
 use crate::{End, SourceFault, Which};
-use px_replay::{ReplayEnd, ThinEnd, read_thin, replay_text};
+use px_lexer::{LexEnd, tokens};
+use px_parser::{ParseEnd, parse};
+use px_replay::{ReplayEnd, replay_text};
+use px_scope::{ScopeEnd, resolve};
 use px_terms::limits::{DERIVATION_BYTES, PROGRAM_BYTES};
 use px_terms::{Program, Text};
+use px_thin::{ThinEnd, thin_program};
 use px_world::{Bytes, Files, ReadEnd, read_all};
 use std::alloc::Global;
 
@@ -48,13 +53,31 @@ pub fn read_text<F: Files>(
     }
 }
 
-/// The program of the bytes. It takes memory for the program.
+/// The program of the bytes: their tokens, the tokens' tree, the tree with numbers for names, and its thin program.
+/// A fault where the first of these layers that fails has it. It takes memory for the layers.
 pub fn read_source(alloc: Global, bytes: &Bytes) -> Result<Program, End>
     requires { length bytes.now ≤ PROGRAM_LIMIT }
     ensures source { Sources bytes.now result }
     ensures numbered { IfOk result HasNumbers }
 {
-    match read_thin(alloc, bytes.as_slice()) {
+    let found = match tokens(alloc, bytes.as_slice()) {
+        Ok(found) => found,
+        Err(LexEnd::Fault { at }) => return Err(End::Source(SourceFault::Lex { at })),
+        Err(LexEnd::NoMemory) => return Err(End::NoMemory),
+    };
+    let surface = match parse(alloc, found.as_slice(), bytes.as_slice()) {
+        Ok(surface) => surface,
+        Err(ParseEnd::Fault { at }) => return Err(End::Source(SourceFault::Parse { at })),
+        Err(ParseEnd::NoMemory) => return Err(End::NoMemory),
+    };
+    let raw = match resolve(alloc, &surface) {
+        Ok(raw) => raw,
+        Err(ScopeEnd::Fault { kind, at }) => {
+            return Err(End::Source(SourceFault::Scope { kind, at }));
+        }
+        Err(ScopeEnd::NoMemory) => return Err(End::NoMemory),
+    };
+    match thin_program(alloc, raw) {
         Ok(program) => Ok(program),
         Err(ThinEnd::NotThin) => Err(End::Source(SourceFault::Unbuilt)),
         Err(ThinEnd::NoMemory) => Err(End::NoMemory),

@@ -1,8 +1,9 @@
 ghost use Rattle.std.specs.Prelude.{◌<◌};
 
+use crate::name_texts::{FAULTS, HIDING, LAWFUL};
 use crate::{CommandLine, drive, status};
 use px_world::{Bytes, MemoryFiles, MemorySink};
-use std::alloc::Global;
+use std::alloc::{AllocError, Global};
 use std::process::Abort;
 use std::test::Fail;
 
@@ -87,6 +88,60 @@ const REPLAY: Call<'static> = Call {
     failing_errors: &[],
 };
 
+/// The call that checks the program.
+const CHECK: Call<'static> = Call {
+    words: &["check", "p"],
+    program: OR,
+    derivation: b"",
+    piece: 4096,
+    failing_calls: &[],
+    failing_writes: &[],
+    failing_errors: &[],
+};
+
+/// Texts that are no program, and the lines that refuse them.
+const REFUSED: [(&[u8], &str); 15] = [
+    (b"def f(", "source: parse at 6\n"),
+    (b"def f(a: Bool,): Bool { a }", "source: parse at 14\n"),
+    (b"def f(a: Bool): Bool { a", "source: parse at 24\n"),
+    (b"def f(): Bool { g() }", "source: scope unknown at 16\n"),
+    (
+        b"def f(a: Bool): Bool { g(a) } def g(a: Bool): Bool { a }",
+        "source: scope later at 23\n",
+    ),
+    (
+        b"def f(a: Bool, a: Bool): Bool { a }",
+        "source: scope repeated at 15\n",
+    ),
+    (
+        b"def f(a: Bool, b: Bool): Bool with comm, comm { a }",
+        "source: scope repeated at 41\n",
+    ),
+    (
+        b"def wle(a: Bool): Bool { a }",
+        "source: scope repeated at 4\n",
+    ),
+    (
+        b"def f(a: Bool): Bool { a(a) }",
+        "source: scope wrong-place at 23\n",
+    ),
+    (
+        b"def big(): Word { 18446744073709551616 }",
+        "source: lex at 18\n",
+    ),
+    (b"def f(a: Bool): Bool { a } $", "source: lex at 27\n"),
+    (b"data Nat { Z, S(Nat) }", "source: unbuilt\n"),
+    (
+        b"def f(a: Bool, b: Bool): Bool with assoc { a }",
+        "source: unbuilt\n",
+    ),
+    (b"def f(a: Bool): Bool with comm { a }", "source: unbuilt\n"),
+    (
+        b"def f(a: Bool): Bool { match a { False => a } }",
+        "source: unbuilt\n",
+    ),
+];
+
 /// Makes the call and compares the status and both outputs, byte for byte.
 fn expect(
     rt: &impl Abort,
@@ -112,6 +167,24 @@ fn expect(
     assert_eq!(rt; err.written(), told.as_bytes());
     assert_eq!(rt; status(&outcome), wanted);
     Ok(())
+}
+
+#[test]
+fn a_program_is_checked(rt: HostRuntime) -> Result<(), Fail> {
+    let counts = "checked: datatypes 0, definitions 1, obligations 2\n";
+    expect(&rt, rt.alloc(), &CHECK, 0, counts, "")?;
+    let spaces = vec![in rt.alloc(); b' '; 262_144]?;
+    let blank = Call {
+        program: &spaces,
+        ..CHECK
+    };
+    let none = "checked: datatypes 0, definitions 0, obligations 0\n";
+    expect(&rt, rt.alloc(), &blank, 0, none, "")?;
+    let silent = Call {
+        failing_writes: &[0],
+        ..CHECK
+    };
+    expect(&rt, rt.alloc(), &silent, 9, "", "write fault\n")
 }
 
 #[test]
@@ -221,12 +294,22 @@ fn another_spelling_is_rejected(rt: HostRuntime) -> Result<(), Fail> {
 /// The words are no plain line.
 fn expect_usage(rt: &impl Abort, alloc: Global, words: &[&str]) -> Result<(), Fail> {
     let call = Call { words, ..REPLAY };
-    expect(rt, alloc, &call, 2, "", "usage: propel replay F D\n")
+    expect(
+        rt,
+        alloc,
+        &call,
+        2,
+        "",
+        "usage: propel check F | replay F D\n",
+    )
 }
 
 #[test]
 fn other_words_are_usage(rt: HostRuntime) -> Result<(), Fail> {
     expect_usage(&rt, rt.alloc(), &[])?;
+    expect_usage(&rt, rt.alloc(), &["check"])?;
+    expect_usage(&rt, rt.alloc(), &["check", "-p"])?;
+    expect_usage(&rt, rt.alloc(), &["check", "p", "d"])?;
     expect_usage(&rt, rt.alloc(), &["replay"])?;
     expect_usage(&rt, rt.alloc(), &["replay", "p"])?;
     expect_usage(&rt, rt.alloc(), &["replay", "p", "-d"])?;
@@ -263,22 +346,106 @@ fn a_fault_of_writing_is_told(rt: HostRuntime) -> Result<(), Fail> {
         failing_errors: &[0],
         ..REPLAY
     };
-    expect(&rt, rt.alloc(), &untold, 9, "", "")
+    expect(&rt, rt.alloc(), &untold, 9, "", "")?;
+    // The line is written in pieces, and its second one fails.
+    let cut = Call {
+        program: b"def f(",
+        failing_errors: &[1],
+        ..CHECK
+    };
+    expect(&rt, rt.alloc(), &cut, 9, "", "source: parse at ")
 }
 
 #[test]
 fn a_programs_text_is_refused(rt: HostRuntime) -> Result<(), Fail> {
-    let other = Call {
+    for (program, line) in REFUSED {
+        let call = Call { program, ..CHECK };
+        expect(&rt, rt.alloc(), &call, 3, "", line)?;
+    }
+    let replayed = Call {
         program: b"def f(",
         ..REPLAY
     };
-    expect(&rt, rt.alloc(), &other, 3, "", "source: unbuilt\n")?;
+    expect(&rt, rt.alloc(), &replayed, 3, "", "source: parse at 6\n")
+}
+
+#[test]
+fn each_rule_of_names_has_its_line(rt: HostRuntime) -> Result<(), Fail> {
+    for (program, line) in FAULTS {
+        expect(&rt, rt.alloc(), &Call { program, ..CHECK }, 3, "", line)?;
+    }
+    Ok(())
+}
+
+#[test]
+fn lawful_names_are_taken(rt: HostRuntime) -> Result<(), Fail> {
+    for program in LAWFUL {
+        let call = Call { program, ..CHECK };
+        expect(&rt, rt.alloc(), &call, 3, "", "source: unbuilt\n")?;
+    }
+    let counts = "checked: datatypes 0, definitions 1, obligations 0\n";
+    for program in HIDING {
+        expect(&rt, rt.alloc(), &Call { program, ..CHECK }, 0, counts, "")?;
+    }
+    Ok(())
+}
+
+#[test]
+fn a_long_text_is_refused(rt: HostRuntime) -> Result<(), Fail> {
     let spaces = vec![in rt.alloc(); b' '; 262_145]?;
     let long = Call {
         program: &spaces,
         ..REPLAY
     };
-    expect(&rt, rt.alloc(), &long, 11, "", "too long: program\n")
+    expect(&rt, rt.alloc(), &long, 11, "", "too long: program\n")?;
+    let checked = Call {
+        program: &spaces,
+        ..CHECK
+    };
+    expect(&rt, rt.alloc(), &checked, 11, "", "too long: program\n")
+}
+
+/// A match on `a`, with such matches in both arms, so many levels deep.
+fn choices(alloc: Global, levels: u32) -> Result<String, AllocError> {
+    let mut text = String::from_str(alloc, "a")?;
+    for _ in 0..levels {
+        let mut next = String::from_str(alloc, "match a{False=>")?;
+        next.push_str(text.as_str())?;
+        next.push_str(",True=>")?;
+        next.push_str(text.as_str())?;
+        next.push_str("}")?;
+        text = next;
+    }
+    Ok(text)
+}
+
+/// The derivation for a constant definition that has such matches in the arm that is never taken ends so.
+fn expect_with_choices(
+    rt: &impl Abort,
+    alloc: Global,
+    levels: u32,
+    wanted: u8,
+    printed: &str,
+    told: &str,
+) -> Result<(), Fail> {
+    let mut text = String::from_str(
+        alloc,
+        "def f(a: Bool, b: Bool): Bool with comm { match True { False => ",
+    )?;
+    text.push_str(choices(alloc, levels)?.as_str())?;
+    text.push_str(", True => False } }")?;
+    let call = Call {
+        program: text.as_bytes(),
+        derivation: b"goal 0\nstep a0l / unfold\nstep a0l / select\nstep a0r / unfold\nstep a0r / select\nsame 0\n",
+        ..REPLAY
+    };
+    expect(rt, alloc, &call, wanted, printed, told)
+}
+
+#[test]
+fn a_body_over_the_limit_is_not_unfolded(rt: HostRuntime) -> Result<(), Fail> {
+    expect_with_choices(&rt, rt.alloc(), 12, 0, "accepted 1\n", "")?;
+    expect_with_choices(&rt, rt.alloc(), 13, 5, "", "rejected\n")
 }
 
 #[test]
@@ -295,7 +462,7 @@ fn the_line_that_was_read_is_kept(rt: HostRuntime) -> Result<(), Fail> {
         Some(CommandLine::Replay { file, derivation }) => {
             file.as_str() == "x" && derivation.as_str() == "y"
         }
-        None => false,
+        Some(CommandLine::Check { .. }) | None => false,
     };
     assert!(rt; kept);
     Ok(())

@@ -21,4 +21,6 @@ pub mod TreesFit
 pub mod Yields
 pub mod TreesNest
 pub mod TreesFilled
+pub mod YieldsFormed
+pub mod TreesNamed
 pub mod TokensFit

@@ -7,6 +7,7 @@ use Rattle.px_parser.specs.Faults.{IsProgramOf, IsFaultOf, place_of, IsUnlessNoM
 use Rattle.px_parser.specs.Reading.{items_at}
 use Rattle.px_parser.specs.Sizes.{surface_size, IsWithinNesting}
 use Rattle.px_parser.specs.Filled.{IsFilled}
+use Rattle.px_parser.specs.Named.{AreNamed}
 use Rattle.px_parser.specs.declared.surface.Item.{Item}
 use Rattle.px_parser.specs.declared.surface.Surface.{Surface}
 use Rattle.px_parser.specs.declared.parse_end.ParseEnd.{ParseEnd}
@@ -15,6 +16,7 @@ use Rattle.px_parser.proofs.TokensFit.{tokens_fit}
 use Rattle.px_parser.proofs.TreesFit.{fits_program}
 use Rattle.px_parser.proofs.TreesNest.{nested_program}
 use Rattle.px_parser.proofs.TreesFilled.{filled_program}
+use Rattle.px_parser.proofs.TreesNamed.{words_formed, named_program}
 use Rattle.px_parser.proofs.Programs.{program_read, one_program, fault_read, left_within, no_program_and_fault, one_fault_at}
 
 words_length : (text : List ℕ) (tokens : List Token) → length (words_of text tokens) ≡ length tokens
@@ -42,6 +44,9 @@ tree_nests text tokens tree is = nested_program.yields (words_of text tokens) tr
 
 pub tree_filled : (text : List ℕ) (tokens : List Token) (tree : Surface) → IsProgramOf text tokens tree → IsFilled tree
 tree_filled text tokens tree is = filled_program.yields (words_of text tokens) tree is
+
+pub tree_named : (text : List ℕ) (tokens : List Token) (tree : Surface) → AreTokens text tokens → IsProgramOf text tokens tree → AreNamed tree
+tree_named text tokens tree are is = named_program.yields (words_of text tokens) tree (words_formed text tokens are) is
 
 pub fault_is : (text : List ℕ) (tokens : List Token) (left place : ℕ) → items_at (words_of text tokens) ≡ Err left → place ≡ place_of text tokens (length tokens - left) → IsFaultOf text tokens place
 fault_is text tokens left place e at =

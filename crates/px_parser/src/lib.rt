@@ -1,6 +1,7 @@
 //! The tree of a program's tokens. `parse` answers exactly the grammar's tree, or exactly the first token through
 //! which no program begins, nesting included. A tree has no more parts than its text has bytes, and nests within the
-//! limit (`specs/Sizes.antt`); its datatypes have constructors and its lemmas equations (`specs/Filled.antt`).
+//! limit (`specs/Sizes.antt`); its datatypes have constructors and its lemmas equations (`specs/Filled.antt`),
+//! and the names that it declares have the form of their tokens (`specs/Named.antt`).
 //! The grammar stands in `specs/Grammar.antt`, a phrase for each production: which words are written for which tree.
 //! The functions go over the tokens once, and look at one token, or at two behind a comma among a parameter's
 //! properties. They call themselves only for nested types and expressions, at most as deep as these may nest; lists

@@ -5,6 +5,7 @@ ghost use Rattle.px_parser.specs.declared.surface.Surface.{Surface};
 ghost use Rattle.px_parser.specs.Faults.{IsProgramOf, IsFaultOf, IsEnd, IsUnlessNoMemory, place_of};
 ghost use Rattle.px_parser.specs.Sizes.{surface_size, IsWithinNesting};
 ghost use Rattle.px_parser.specs.Filled.{IsFilled};
+ghost use Rattle.px_parser.specs.Named.{AreNamed};
 
 use crate::declarations::read_items;
 use crate::parse_end::ParseEnd;
@@ -23,11 +24,12 @@ pub fn parse(alloc: Global, tokens: &[Token], text: &[u8]) -> Result<Surface, Pa
     ensures ok { IfOk result (IsProgramOf text.now tokens.now) }
     ensures fault { IfErr result (IsEnd text.now tokens.now) }
 
-    // The tree has no more parts than the text has bytes, its types and expressions nest within the limit, and each
-    // datatype has a constructor and each lemma an equation.
+    // The tree has no more parts than the text has bytes, its types and expressions nest within the limit, each datatype
+    // has a constructor and each lemma an equation, and the names that it declares have the form of their tokens.
     ensures fits { IfOk result (λ tree. surface_size tree ≤ length text.now) }
     ensures nests { IfOk result IsWithinNesting }
     ensures filled { IfOk result IsFilled }
+    ensures named { IfOk result AreNamed }
 
     // Unless memory runs out, the one tree of the tokens is answered, and so is their one fault.
     ensures each_tree { (tree : Surface) → IsProgramOf text.now tokens.now tree → IsUnlessNoMemory (Ok tree) result }

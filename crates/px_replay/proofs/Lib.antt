@@ -10,11 +10,3 @@ pub mod ReplayLemmas
 pub mod Results
 pub mod RowLemmas
 pub mod StepLemmas
-pub mod ThinPlain
-pub mod ThinNames
-pub mod ThinTerms
-pub mod ThinLists
-pub mod ThinDefs
-pub mod ThinTyped
-pub mod ThinNumbers
-pub mod ThinPrograms

@@ -47,7 +47,9 @@ not_among names name e c =
     absurd cc
 
 -- A list with one name more, which stands in the table in any order.
-module _ (table before after front back : List (List ℕ)) (name : List ℕ) (before_is : before ≡ front ++ back) (after_is : after ≡ front ++ name ∷ back) (within : (other : List ℕ) → Contains before other → Contains table other) where
+module _ (table before after front back : List (List ℕ)) (name : List ℕ)
+  (before_is : before ≡ front ++ back) (after_is : after ≡ front ++ name ∷ back)
+  (within : (other : List ℕ) → Contains before other → Contains table other) where
   -- the list is still without equal names
   pub distinct_more : is_name table name ≡ false → AreDistinct before → AreDistinct after
   distinct_more new distinct =

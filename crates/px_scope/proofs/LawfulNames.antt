@@ -90,12 +90,14 @@ claims_lowers G (Some meaning.Lemma) props = refl
 claims_lowers G (Some meaning.Replica) props = refl
 
 -- constructors that break no rule are new, each by itself
-distinct_constructors : (text : List Item) (T : TypeLocals) (own number : ℕ) (G : Globals) (cons : List SCon) → first_broken (constructors_uses text own number G T cons) ≡ None → AreDistinct G.cons → AreDistinct (G.cons ++ constructor_names cons)
+distinct_constructors : (text : List Item) (T : TypeLocals) (own number : ℕ) (G : Globals) (cons : List SCon) →
+    first_broken (constructors_uses text own number G T cons) ≡ None → AreDistinct G.cons → AreDistinct (G.cons ++ constructor_names cons)
 distinct_constructors text T own number G [] fine distinct = subst AreDistinct (sym (append-nil G.cons)) distinct
 distinct_constructors text T own number G (con ∷ cons) fine distinct =
     let here = constructor_uses text G T con in
     let others = constructors_uses text own (number + 1) (with_constructor own number G con) T cons in
-    let new : is_name G.cons con.name.text ≡ false = rule_kept con.name.at (is_name G.cons con.name.text) (first_broken (types_uses text G T con.fields)) (fine_front here others fine) in
+    let new : is_name G.cons con.name.text ≡ false =
+          rule_kept con.name.at (is_name G.cons con.name.text) (first_broken (types_uses text G T con.fields)) (fine_front here others fine) in
     subst AreDistinct (append_assoc G.cons (con.name.text ∷ []) (constructor_names cons))
     (distinct_constructors text T own (number + 1) (with_constructor own number G con) cons (fine_back here others fine)
     (distinct_push G.cons con.name.text distinct (not_among G.cons con.name.text new)))
@@ -117,7 +119,10 @@ datatype_stands text G names d fine named stand =
     let cons = constructors_uses text own 0 H (data_locals own d.tparams) d.cons in
     let new : is_type_name G d.name.text ≡ false = rule_kept d.name.at (is_type_name G d.name.text) (first_broken (tparams ++ cons)) fine in
     let rest : first_broken cons ≡ None = fine_back tparams cons (fine_parts d.name.at (broken_where (is_type_name G d.name.text) Repeated) (first_broken (tparams ++ cons)) fine).1 in
-    let flat : flat_map (λ (x : List (List ℕ)). x) (names.cons ++ constructor_names d.cons ∷ []) ≡ G.cons ++ constructor_names d.cons = flat_map-append (λ (x : List (List ℕ)). x) names.cons (constructor_names d.cons ∷ []) ∙ ap (λ xs. con_names names ++ xs) (append-nil (constructor_names d.cons)) ∙ ap (λ xs. xs ++ constructor_names d.cons) stand.cons in
+    let flat : flat_map (λ (x : List (List ℕ)). x) (names.cons ++ constructor_names d.cons ∷ []) ≡ G.cons ++ constructor_names d.cons =
+          flat_map-append (λ (x : List (List ℕ)). x) names.cons (constructor_names d.cons ∷ [])
+          ∙ ap (λ xs. con_names names ++ xs) (append-nil (constructor_names d.cons))
+          ∙ ap (λ xs. xs ++ constructor_names d.cons) stand.cons in
     let lawful = stand.lawful in
     let forms = lawful.forms in
     record {
@@ -129,12 +134,13 @@ datatype_stands text G names d fine named stand =
           datatype = first_stays names.datatypes d.name.text (codes "Bool") lawful.bool.datatype;
           cons = first_stays names.cons (constructor_names d.cons) (codes "False" ∷ codes "True" ∷ []) lawful.bool.cons;
         };
-        types = distinct_push (type_names names) d.name.text lawful.types (not_among (type_names names) d.name.text (ap (λ xs. is_name (codes "Word" ∷ xs) d.name.text) stand.types ∙ new));
+        types = distinct_push (type_names names) d.name.text lawful.types
+            (not_among (type_names names) d.name.text (ap (λ xs. is_name (codes "Word" ∷ xs) d.name.text) stand.types ∙ new));
         constructors = subst AreDistinct (sym flat) (distinct_constructors text (data_locals own d.tparams) own 0 H d.cons rest (subst AreDistinct stand.cons lawful.constructors));
         lowers = lawful.lowers;
         forms = record {
-          datatypes = All-push IsUpper names.datatypes d.name.text forms.datatypes named.0;
-          cons = All-push (All IsUpper) names.cons (constructor_names d.cons) forms.cons (All-map IsUpper (λ (con : SCon). con.name.text) d.cons named.1);
+          datatypes = All-push IsUpper names.datatypes d.name.text forms.datatypes named.name;
+          cons = All-push (All IsUpper) names.cons (constructor_names d.cons) forms.cons (All-map IsUpper (λ (con : SCon). con.name.text) d.cons named.cons);
           defs = forms.defs;
           lemmas = forms.lemmas;
           replicas = forms.replicas;
@@ -142,23 +148,30 @@ datatype_stands text G names d fine named stand =
       };
     }
 
+-- The second has this name with a small letter more.
+record Follows (G H : Globals) (name : List ℕ) : Type 0 where
+  types : H.datatypes ≡ G.datatypes
+  cons : H.cons ≡ G.cons
+  lowers : H.lowers ≡ G.lowers ++ name ∷ []
+
 -- two names in front
 abbrev two : List (List ℕ) → List (List ℕ)
 two xs = codes "wle" ∷ codes "weq" ∷ xs
 
 -- a definition more
-definition_stands : (G H : Globals) (names : Names) (name : List ℕ) → H.datatypes ≡ G.datatypes → H.cons ≡ G.cons → H.lowers ≡ G.lowers ++ name ∷ [] → is_name G.lowers name ≡ false → IsLower name → Stand G names
+definition_stands : (G H : Globals) (names : Names) (name : List ℕ) → Follows G H name → is_name G.lowers name ≡ false → IsLower name → Stand G names
     → Stand H (record names { defs = names.defs ++ name ∷ [] })
-definition_stands G H names name types cons lowers new named stand =
+definition_stands G H names name follows new named stand =
     let front = two names.defs in
     let back = names.lemmas ++ names.replicas in
     let all : two ((names.defs ++ name ∷ []) ++ back) ≡ front ++ name ∷ back = ap two (append_assoc names.defs (name ∷ []) back) in
     let lawful = stand.lawful in
     let forms = lawful.forms in
     record {
-      types = stand.types ∙ sym types;
-      cons = stand.cons ∙ sym cons;
-      lowers = λ other c. subst (λ xs. Contains xs other) (sym lowers) (within_more G.lowers (lower_names names) (two ((names.defs ++ name ∷ []) ++ back)) front back name refl all stand.lowers other c);
+      types = stand.types ∙ sym follows.types;
+      cons = stand.cons ∙ sym follows.cons;
+      lowers = λ other c. subst (λ xs. Contains xs other) (sym follows.lowers)
+        (within_more G.lowers (lower_names names) (two ((names.defs ++ name ∷ []) ++ back)) front back name refl all stand.lowers other c);
       lawful = record {
         bool = record { datatype = lawful.bool.datatype; cons = lawful.bool.cons };
         types = lawful.types;
@@ -169,20 +182,23 @@ definition_stands G H names name types cons lowers new named stand =
     }
 
 -- a lemma more
-lemma_stands : (G H : Globals) (names : Names) (name : List ℕ) → H.datatypes ≡ G.datatypes → H.cons ≡ G.cons → H.lowers ≡ G.lowers ++ name ∷ [] → is_name G.lowers name ≡ false → IsLower name → Stand G names
+lemma_stands : (G H : Globals) (names : Names) (name : List ℕ) → Follows G H name → is_name G.lowers name ≡ false → IsLower name → Stand G names
     → Stand H (record names { lemmas = names.lemmas ++ name ∷ [] })
-lemma_stands G H names name types cons lowers new named stand =
+lemma_stands G H names name follows new named stand =
     let front = two (names.defs ++ names.lemmas) in
     let back = names.replicas in
     let after = two (names.defs ++ ((names.lemmas ++ name ∷ []) ++ back)) in
     let before_is : lower_names names ≡ front ++ back = ap two (sym (append_assoc names.defs names.lemmas back)) in
-    let all : after ≡ front ++ name ∷ back = ap (λ xs. two (names.defs ++ xs)) (append_assoc names.lemmas (name ∷ []) back) ∙ ap two (sym (append_assoc names.defs names.lemmas (name ∷ back))) in
+    let all : after ≡ front ++ name ∷ back =
+          ap (λ xs. two (names.defs ++ xs)) (append_assoc names.lemmas (name ∷ []) back)
+          ∙ ap two (sym (append_assoc names.defs names.lemmas (name ∷ back))) in
     let lawful = stand.lawful in
     let forms = lawful.forms in
     record {
-      types = stand.types ∙ sym types;
-      cons = stand.cons ∙ sym cons;
-      lowers = λ other c. subst (λ xs. Contains xs other) (sym lowers) (within_more G.lowers (lower_names names) after front back name before_is all stand.lowers other c);
+      types = stand.types ∙ sym follows.types;
+      cons = stand.cons ∙ sym follows.cons;
+      lowers = λ other c. subst (λ xs. Contains xs other) (sym follows.lowers)
+        (within_more G.lowers (lower_names names) after front back name before_is all stand.lowers other c);
       lawful = record {
         bool = record { datatype = lawful.bool.datatype; cons = lawful.bool.cons };
         types = lawful.types;
@@ -193,18 +209,21 @@ lemma_stands G H names name types cons lowers new named stand =
     }
 
 -- a replica more
-replica_stands : (G H : Globals) (names : Names) (name : List ℕ) → H.datatypes ≡ G.datatypes → H.cons ≡ G.cons → H.lowers ≡ G.lowers ++ name ∷ [] → is_name G.lowers name ≡ false → IsLower name → Stand G names
+replica_stands : (G H : Globals) (names : Names) (name : List ℕ) → Follows G H name → is_name G.lowers name ≡ false → IsLower name → Stand G names
     → Stand H (record names { replicas = names.replicas ++ name ∷ [] })
-replica_stands G H names name types cons lowers new named stand =
+replica_stands G H names name follows new named stand =
     let front = lower_names names in
     let after = two (names.defs ++ (names.lemmas ++ (names.replicas ++ name ∷ []))) in
-    let all : after ≡ front ++ name ∷ [] = ap (λ xs. two (names.defs ++ xs)) (sym (append_assoc names.lemmas names.replicas (name ∷ []))) ∙ ap two (sym (append_assoc names.defs (names.lemmas ++ names.replicas) (name ∷ []))) in
+    let all : after ≡ front ++ name ∷ [] =
+          ap (λ xs. two (names.defs ++ xs)) (sym (append_assoc names.lemmas names.replicas (name ∷ [])))
+          ∙ ap two (sym (append_assoc names.defs (names.lemmas ++ names.replicas) (name ∷ []))) in
     let lawful = stand.lawful in
     let forms = lawful.forms in
     record {
-      types = stand.types ∙ sym types;
-      cons = stand.cons ∙ sym cons;
-      lowers = λ other c. subst (λ xs. Contains xs other) (sym lowers) (within_more G.lowers front after front [] name (sym (append-nil front)) all stand.lowers other c);
+      types = stand.types ∙ sym follows.types;
+      cons = stand.cons ∙ sym follows.cons;
+      lowers = λ other c. subst (λ xs. Contains xs other) (sym follows.lowers)
+        (within_more G.lowers front after front [] name (sym (append-nil front)) all stand.lowers other c);
       lawful = record {
         bool = record { datatype = lawful.bool.datatype; cons = lawful.bool.cons };
         types = lawful.types;
@@ -215,11 +234,13 @@ replica_stands G H names name types cons lowers new named stand =
     }
 
 -- a declaration more
-next_stands : (text : List Item) (G : Globals) (P : RawProgram) {item : Item} {Q : RawProgram} → IsNext G P item Q → first_broken (item_uses text G item) ≡ None → IsNamedItem item → Stand G P.names → Stand (after G item) Q.names
+next_stands : (text : List Item) (G : Globals) (P : RawProgram) {item : Item} {Q : RawProgram} →
+    IsNext G P item Q → first_broken (item_uses text G item) ≡ None → IsNamedItem item → Stand G P.names → Stand (after G item) Q.names
 next_stands text G P (IsNext.datatype {d = d} is e) fine named stand = subst (λ (Q : RawProgram). Stand (after G (items.Datatype d)) Q.names) (sym e) (datatype_stands text G P.names d fine named stand)
 next_stands text G P (IsNext.definition {d = d} is e) fine named stand =
     subst (λ (Q : RawProgram). Stand (after G (items.Definition d)) Q.names) (sym e)
-    (definition_stands G (after G (items.Definition d)) P.names d.name.text refl refl refl (rule_kept d.name.at (is_name G.lowers d.name.text) _ fine) named stand)
+    (definition_stands G (after G (items.Definition d)) P.names d.name.text (record { types = refl; cons = refl; lowers = refl })
+    (rule_kept d.name.at (is_name G.lowers d.name.text) _ fine) named stand)
 next_stands text G P (IsNext.claim {c = c} is e) fine named stand =
     let m = meaning_of G c.name.text in
     let props = props_of c.props in
@@ -231,13 +252,16 @@ next_stands text G P (IsNext.claim {c = c} is e) fine named stand =
     })
 next_stands text G P (IsNext.lemma {l = l} is e) fine named stand =
     subst (λ (Q : RawProgram). Stand (after G (items.Lemma l)) Q.names) (sym e)
-    (lemma_stands G (after G (items.Lemma l)) P.names l.name.text refl refl refl (rule_kept l.name.at (is_name G.lowers l.name.text) _ fine) named stand)
+    (lemma_stands G (after G (items.Lemma l)) P.names l.name.text (record { types = refl; cons = refl; lowers = refl })
+    (rule_kept l.name.at (is_name G.lowers l.name.text) _ fine) named stand)
 next_stands text G P (IsNext.replica {r = r} is e) fine named stand =
     subst (λ (Q : RawProgram). Stand (after G (items.Replica r)) Q.names) (sym e)
-    (replica_stands G (after G (items.Replica r)) P.names r.name.text refl refl refl (rule_kept r.name.at (is_name G.lowers r.name.text) _ fine) named stand)
+    (replica_stands G (after G (items.Replica r)) P.names r.name.text (record { types = refl; cons = refl; lowers = refl })
+    (rule_kept r.name.at (is_name G.lowers r.name.text) _ fine) named stand)
 
 -- so do declarations
-all_stand : (whole : List Item) {G : Globals} {P : RawProgram} {text : List Item} {Q : RawProgram} → AreNext G P text Q → first_broken (along after (item_uses whole) G text) ≡ None → All IsNamedItem text → Stand G P.names → IsLawful Q.names
+all_stand : (whole : List Item) {G : Globals} {P : RawProgram} {text : List Item} {Q : RawProgram} →
+    AreNext G P text Q → first_broken (along after (item_uses whole) G text) ≡ None → All IsNamedItem text → Stand G P.names → IsLawful Q.names
 all_stand whole AreNext.none fine named stand = stand.lawful
 all_stand whole {G = G} {P = P} (AreNext.more {item = item} {text = text} first rest) fine named stand =
     let here = item_uses whole G item in
@@ -266,7 +290,9 @@ first_stands = record {
     lowers = distinct_two (codes "wle") (codes "weq") refl;
     forms = record {
       datatypes = All-cons IsUpper (codes "Bool") [] is_bool (All-nil IsUpper);
-      cons = All-cons (All IsUpper) (codes "False" ∷ codes "True" ∷ []) [] (All-cons IsUpper (codes "False") (codes "True" ∷ []) is_false (All-cons IsUpper (codes "True") [] is_true (All-nil IsUpper))) (All-nil (All IsUpper));
+      cons = All-cons (All IsUpper) (codes "False" ∷ codes "True" ∷ []) []
+        (All-cons IsUpper (codes "False") (codes "True" ∷ []) is_false (All-cons IsUpper (codes "True") [] is_true (All-nil IsUpper)))
+        (All-nil (All IsUpper));
       defs = All-nil IsLower;
       lemmas = All-nil IsLower;
       replicas = All-nil IsLower;
@@ -288,7 +314,8 @@ pub lawful_program : (surface : Surface) (P : RawProgram) → AreNamed surface �
 lawful_program surface P named numbering = all_stand surface.items numbering.numbered numbering.lawful named first_stands
 
 -- so are those of an answer
-pub lawful_answer : (surface : Surface) (text : List Item) (r : Result RawProgram ScopeEnd) → text ≡ surface.items → AreNamed surface → Resolves (text_uses text) (AreNext built_in start text) r → IfOk r (λ P. IsLawful P.names)
+pub lawful_answer : (surface : Surface) (text : List Item) (r : Result RawProgram ScopeEnd) → text ≡ surface.items → AreNamed surface →
+    Resolves (text_uses text) (AreNext built_in start text) r → IfOk r (λ P. IsLawful P.names)
 lawful_answer surface text (Ok P) same named (fine, are) = lawful_program surface P named (record {
   lawful = ap (λ xs. first_broken (text_uses xs)) (sym same) ∙ fine;
   numbered = subst (λ xs. AreNext built_in start xs P) same are;

@@ -31,7 +31,7 @@ props_of props = map (λ (p : RawProp). p.prop) props
 abbrev pub with_datatype : Globals → Name → Globals
 with_datatype G name = record G { datatypes = G.datatypes ++ name.text ∷ [] }
 
--- the constructor that is added next to the last datatype, so many of whose constructors were added before
+-- one more constructor, of this datatype and with this number in it
 abbrev pub with_constructor : ℕ → ℕ → Globals → SCon → Globals
 with_constructor datatype number G con = record G { cons = G.cons ++ con.name.text ∷ []; constructors = G.constructors ++ record { datatype = datatype; number = number } ∷ [] }
 
@@ -44,7 +44,7 @@ with_constructors datatype number G (con ∷ cons) = with_constructors datatype 
 abbrev pub with_lower : Globals → Name → Meaning → Globals
 with_lower G name meaning = record G { lowers = G.lowers ++ name.text ∷ []; meanings = G.meanings ++ meaning ∷ [] }
 
--- whether a parameter is a function
+-- 1 for a function, and 0 for a value
 abbrev pub functions_in : SParamKind → ℕ
 functions_in (param_kinds.Function f) = 1
 functions_in (param_kinds.Value s) = 0

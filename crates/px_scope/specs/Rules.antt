@@ -43,12 +43,12 @@ are_parameters (a ∷ args) [] = false
 are_parameters (None ∷ args) (p ∷ ps) = false
 are_parameters (Some a ∷ args) (p ∷ ps) = bytes_eq a p && are_parameters args ps
 
--- the number is that of the datatype that is being declared
+-- the number is this one, where there is one: that of the datatype or the definition that is being declared
 abbrev pub is_own : Option ℕ → ℕ → Bool
 is_own (Some own) n = own == n
 is_own None n = false
 
--- what a type's name stands for, with the lone names of its arguments
+-- the rule that a type's name breaks, by what it stands for and by the lone names of its arguments
 abbrev pub type_fault_at : Bool → Option RawTyKind → TypeLocals → List (Option (List ℕ)) → Option ScopeKind
 type_fault_at declared None T args = Some (absent declared)
 type_fault_at declared (Some type_kinds.Word) T args = None
@@ -110,7 +110,7 @@ has_prop props p = list_any (λ q. prop_number q == prop_number p) props
 abbrev pub property_fault : List Prop → Prop → Option ScopeKind
 property_fault claimed p = broken_where (has_prop claimed p) Repeated
 
--- what a claimed name stands for
+-- the rule that a claimed name breaks, by what it stands for
 abbrev pub claim_fault_at : Bool → Option Meaning → Option ScopeKind
 claim_fault_at declared None = Some (absent declared)
 claim_fault_at declared (Some Wle) = Some WrongPlace
@@ -123,7 +123,7 @@ claim_fault_at declared (Some Replica) = Some WrongPlace
 abbrev pub claim_fault : List Item → Globals → List ℕ → Option ScopeKind
 claim_fault text G name = claim_fault_at (declares_lower text name) (meaning_of G name)
 
--- what a constructor's name stands for
+-- the rule that a constructor's name breaks, by what it stands for
 abbrev pub constructor_fault_at : Bool → Option Constructor → Option ScopeKind
 constructor_fault_at declared None = Some (absent declared)
 constructor_fault_at declared (Some con) = None
@@ -132,13 +132,13 @@ constructor_fault_at declared (Some con) = None
 abbrev pub constructor_fault : List Item → Globals → List ℕ → Option ScopeKind
 constructor_fault text G name = constructor_fault_at (declares_constructor text name) (constructor_of G name)
 
--- whether a name with a small letter is called, and what it stands for as a local
+-- the rule that a local breaks where data is wanted, by whether it is called
 abbrev pub local_value_fault : Local → Bool → Option ScopeKind
 local_value_fault (Function n) called = broken_where (not called) WrongPlace
 local_value_fault (Value n) called = broken_where called WrongPlace
 local_value_fault (Pattern n) called = broken_where called WrongPlace
 
--- whether a name with a small letter is called, and what it stands for at the top
+-- the rule that a name breaks where data is wanted, by what it stands for at the top and by whether it is called
 abbrev pub global_value_fault : Bool → Option Meaning → Bool → Option ScopeKind
 global_value_fault declared None called = Some (absent declared)
 global_value_fault declared (Some Wle) called = broken_where (not called) WrongPlace
@@ -147,7 +147,7 @@ global_value_fault declared (Some (Definition n functions)) called = broken_wher
 global_value_fault declared (Some Lemma) called = Some WrongPlace
 global_value_fault declared (Some Replica) called = Some WrongPlace
 
--- a local hides what is declared at the top
+-- the same, where a local hides what is declared at the top
 abbrev pub value_fault_at : Bool → Option Local → Option Meaning → Bool → Option ScopeKind
 value_fault_at declared (Some local) meaning called = local_value_fault local called
 value_fault_at declared None meaning called = global_value_fault declared meaning called
@@ -156,13 +156,14 @@ value_fault_at declared None meaning called = global_value_fault declared meanin
 abbrev pub value_fault : List Item → Globals → Locals → List ℕ → Bool → Option ScopeKind
 value_fault text G L name called = value_fault_at (declares_lower text name) (local_of L name) (meaning_of G name) called
 
--- what a function argument stands for as a local
+-- the rule that a local breaks in a function argument's place, by whether it is called
 abbrev pub local_function_fault : Local → Bool → Option ScopeKind
 local_function_fault (Function n) called = broken_where called WrongPlace
 local_function_fault (Value n) called = Some WrongPlace
 local_function_fault (Pattern n) called = Some WrongPlace
 
--- what a function argument stands for at the top: a definition has no function parameters, and is not the one being declared
+-- The rule that a name breaks in a function argument's place, by what it stands for at the top and by whether it is called: a
+-- definition has no function parameters, and is not the one that is being declared.
 abbrev pub global_function_fault : Bool → Locals → Option Meaning → Bool → Option ScopeKind
 global_function_fault declared L None called = Some (absent declared)
 global_function_fault declared L (Some Wle) called = broken_where called WrongPlace
@@ -171,7 +172,7 @@ global_function_fault declared L (Some (Definition n functions)) called = broken
 global_function_fault declared L (Some Lemma) called = Some WrongPlace
 global_function_fault declared L (Some Replica) called = Some WrongPlace
 
--- a local hides what is declared at the top
+-- the same in a function argument's place, where a local hides what is declared at the top
 abbrev pub function_fault_at : Bool → Locals → Option Local → Option Meaning → Bool → Option ScopeKind
 function_fault_at declared L (Some local) meaning called = local_function_fault local called
 function_fault_at declared L None meaning called = global_function_fault declared L meaning called
@@ -180,7 +181,7 @@ function_fault_at declared L None meaning called = global_function_fault declare
 abbrev pub function_fault : List Item → Globals → Locals → List ℕ → Bool → Option ScopeKind
 function_fault text G L name called = function_fault_at (declares_lower text name) L (local_of L name) (meaning_of G name) called
 
--- where no name may stand whatever it stands for, as long as it is declared
+-- the rule that is broken where nothing of this kind may stand: WrongPlace, but that a name that is not declared before breaks its own
 abbrev pub misplaced : {T : Type 0} → Bool → Option T → Option ScopeKind
 misplaced declared None = Some (absent declared)
 misplaced declared (Some x) = Some WrongPlace
@@ -193,7 +194,7 @@ constructor_argument_fault text G name = misplaced (declares_constructor text na
 abbrev pub from_fault : List Item → Globals → List ℕ → Option ScopeKind
 from_fault text G name = misplaced (declares_lower text name) (meaning_of G name)
 
--- what the name of a merge stands for
+-- the rule that the name of a merge breaks, by what it stands for
 abbrev pub merge_fault_at : Bool → Option Meaning → Option ScopeKind
 merge_fault_at declared None = Some (absent declared)
 merge_fault_at declared (Some Wle) = None

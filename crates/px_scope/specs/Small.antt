@@ -13,7 +13,7 @@ IsSmallItem (items.Claim c) = Unit {0}
 IsSmallItem (items.Lemma l) = (length l.tparams < 2 ^ 32) × (0 < length l.equations)
 IsSmallItem (items.Replica r) = Unit {0}
 
--- the declarations can be numbered, and each is small
+-- the declarations can be numbered, with room for `Bool`, and each is small
 pub record IsSmall (text : List Item) : Type 0 where
   pub few : length text < 2 ^ 31
   pub each : All IsSmallItem text

@@ -1,4 +1,6 @@
--- The names that stand in a tree, in the order of the text, each with the first rule that it breaks at its place.
+-- The names that stand in a tree, in the order of the text, each with the first rule that it breaks at its place. An
+-- expression that may not stand in a function argument's place, or in a replica's first value, counts as one name that breaks
+-- a rule: the names in it are not listed.
 use Rattle.std.specs.Prelude.{ℕ, false, List, [], ◌∷◌, ◌++◌, map, take, drop, Option, Some, None}
 use Rattle.std.specs.List.{flat_map}
 use Rattle.std.specs.Option.{is_some}
@@ -93,7 +95,7 @@ variables_uses L vars = along bind_one (λ (M : Locals) (v : Name). use_of v (ne
 abbrev pub Seen : Type 0
 Seen = Role → Locals → List Use
 
--- no function stands here
+-- an expression that may not stand here
 abbrev pub misplaced_use : ℕ → List Use
 misplaced_use at = record { at = at; fault = Some WrongPlace } ∷ []
 
@@ -103,7 +105,7 @@ literal_uses at Data = []
 literal_uses at Function = misplaced_use at
 literal_uses at From = []
 
--- a construction: its constructor, the types, and the fields
+-- a construction: its constructor, the types, and the fields; in a function argument's place its constructor alone
 abbrev pub construction_uses : List Item → Globals → Name → List SType → List Seen → Seen
 construction_uses text G name types fields Data L = use_of name (constructor_fault text G name.text) ∷ (types_uses text G L.types types ++ flat_map (λ (f : Seen). f Data L) fields)
 construction_uses text G name types fields Function L = use_of name (constructor_argument_fault text G name.text) ∷ []
@@ -114,13 +116,14 @@ abbrev pub arguments_uses : ℕ → Locals → Option (List Seen) → List Use
 arguments_uses places L None = []
 arguments_uses places L (Some args) = flat_map (λ (a : Seen). a Function L) (take places args) ++ flat_map (λ (a : Seen). a Data L) (drop places args)
 
--- a variable or a call: its name, the types, and the arguments
+-- A variable or a call: its name, the types, and the arguments; in a function argument's place without the arguments, and in a
+-- replica's first value its name alone.
 abbrev pub lower_uses : List Item → Globals → Name → List SType → Option (List Seen) → Seen
 lower_uses text G name types args Data L = use_of name (value_fault text G L name.text (is_some args)) ∷ (types_uses text G L.types types ++ arguments_uses (function_places G L name.text) L args)
 lower_uses text G name types args Function L = use_of name (function_fault text G L name.text (is_some args)) ∷ types_uses text G L.types types
 lower_uses text G name types args From L = use_of name (from_fault text G name.text) ∷ []
 
--- a match: what it is on, and the arms
+-- a match: what it is on, and the arms; where no data is wanted it counts as a name itself
 abbrev pub match_uses : ℕ → Seen → List (Locals → List Use) → Seen
 match_uses at on arms Data L = on Data L ++ flat_map (λ (arm : Locals → List Use). arm L) arms
 match_uses at on arms Function L = misplaced_use at

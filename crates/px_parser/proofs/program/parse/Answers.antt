@@ -3,7 +3,7 @@ use Rattle.px_parser.specs.Gives.{words}
 use Rattle.px_parser.specs.declared.parse_end.ParseEnd.TheVariants.{Fault}
 use Rattle.px_parser.specs.Faults.{IsProgramOf, IsFaultOf}
 use Rattle.px_parser.proofs.TokensReadable.{readable_tokens}
-use Rattle.px_parser.proofs.Parses.{left_of_tokens, tree_read, tree_fits, tree_nests, tree_filled, fault_is, each_tree_of, each_fault_of}
+use Rattle.px_parser.proofs.Parses.{left_of_tokens, tree_read, tree_fits, tree_nests, tree_filled, tree_named, fault_is, each_tree_of, each_fault_of}
 use Rattle.px_parser.proofs.program.parse.Goals as goal
 
 pub invariant_of-rest : goal.invariant_of-rest
@@ -29,6 +29,11 @@ pub returns-in-Ok-clause-filled : goal.returns-in-Ok-clause-filled
 returns-in-Ok-clause-filled c =
     let tree : IsProgramOf c.args.text.now c.args.tokens.now (record { items = c.in-Ok.items }) = tree_read c.args.text.now c.args.tokens.now (words c.in-Ok.field-0-1) c.in-Ok.items c.in-Ok.ensures.reads c.in-Ok.ensures.all in
     tree_filled c.args.text.now c.args.tokens.now (record { items = c.in-Ok.items }) tree
+
+pub returns-in-Ok-clause-named : goal.returns-in-Ok-clause-named
+returns-in-Ok-clause-named c =
+    let tree : IsProgramOf c.args.text.now c.args.tokens.now (record { items = c.in-Ok.items }) = tree_read c.args.text.now c.args.tokens.now (words c.in-Ok.field-0-1) c.in-Ok.items c.in-Ok.ensures.reads c.in-Ok.ensures.all in
+    tree_named c.args.text.now c.args.tokens.now (record { items = c.in-Ok.items }) c.requires.tokens tree
 
 pub returns-in-Ok-clause-each_tree : goal.returns-in-Ok-clause-each_tree
 returns-in-Ok-clause-each_tree c =

@@ -1,0 +1,67 @@
+-- Which program a text is, and why it is none: its tokens, their tree, the tree's numbered program, and its thin one.
+use Rattle.std.specs.Prelude.{ℕ, List, ⊤, Result, Ok, Err}
+use Rattle.px_terms.specs.declared.program.Program.{Program}
+use Rattle.px_terms.specs.declared.raw.RawProgram.{RawProgram}
+use Rattle.px_lexer.specs.declared.token.Token.{Token}
+use Rattle.px_lexer.specs.Tokens.{AreTokens}
+use Rattle.px_lexer.specs.Tokens as lexer
+use Rattle.px_parser.specs.declared.surface.Surface.{Surface}
+use Rattle.px_parser.specs.Faults.{IsProgramOf, IsFaultOf}
+use Rattle.px_scope.specs.declared.ends.ScopeKind.{ScopeKind}
+use Rattle.px_scope.specs.Programs.{IsNumbering}
+use Rattle.px_scope.specs.Programs as scope
+use Rattle.px_thin.specs.Thin.{IsThinProgram}
+use Rattle.px_drive.specs.declared.outcome.End.{End}
+use Rattle.px_drive.specs.declared.outcome.End.TheVariants.{Source, NoMemory}
+use Rattle.px_drive.specs.declared.outcome.SourceFault.{SourceFault}
+use Rattle.px_drive.specs.declared.outcome.SourceFault.TheVariants.{Lex, Parse, Scope, Unbuilt}
+
+-- The text is this program: it is these tokens, they are this tree, the tree is this numbered program, and that is this
+-- thin program.
+pub record IsSource (text : List ℕ) (P : Program) : Type 0 where
+  pub tokens : List Token
+  pub surface : Surface
+  pub raw : RawProgram
+  pub are_tokens : AreTokens text tokens
+  pub is_tree : IsProgramOf text tokens surface
+  pub is_numbering : IsNumbering surface raw
+  pub is_thin : IsThinProgram raw P
+
+-- the text is tokens that are no program, and their fault is at this place
+pub record IsParseFault (text : List ℕ) (at : ℕ) : Type 0 where
+  pub tokens : List Token
+  pub are_tokens : AreTokens text tokens
+  pub is_fault : IsFaultOf text tokens at
+
+-- the text is a tree in which the name at this place is the first that breaks a rule of scope, and this is the first rule
+-- that it breaks
+pub record IsScopeFault (text : List ℕ) (kind : ScopeKind) (at : ℕ) : Type 0 where
+  pub tokens : List Token
+  pub surface : Surface
+  pub are_tokens : AreTokens text tokens
+  pub is_tree : IsProgramOf text tokens surface
+  pub is_fault : scope.IsFault surface (record { kind = kind; at = at })
+
+-- the text is a numbered program that is no thin program
+pub record IsUnbuilt (text : List ℕ) : Type 0 where
+  pub tokens : List Token
+  pub surface : Surface
+  pub raw : RawProgram
+  pub are_tokens : AreTokens text tokens
+  pub is_tree : IsProgramOf text tokens surface
+  pub is_numbering : IsNumbering surface raw
+  pub is_none : (P : Program) → ¬ IsThinProgram raw P
+
+-- the text is no program for this cause, by the first layer that fails
+abbrev pub IsSourceFault : List ℕ → SourceFault → Type 0
+IsSourceFault text (Lex at) = lexer.IsFault text at
+IsSourceFault text (Parse at) = IsParseFault text at
+IsSourceFault text (Scope kind at) = IsScopeFault text kind at
+IsSourceFault text Unbuilt = IsUnbuilt text
+
+-- the program of the bytes, or why they are none
+abbrev pub Sources : List ℕ → Result Program End → Type 0
+Sources text (Ok program) = IsSource text program
+Sources text (Err (Source fault)) = IsSourceFault text fault
+Sources text (Err NoMemory) = ⊤
+Sources text (Err _) = ⊥
