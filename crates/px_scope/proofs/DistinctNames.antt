@@ -7,7 +7,7 @@ use Rattle.std.proofs.lemmas.Slice.Eq.{bytes_eq-Decides}
 use Rattle.std.proofs.lemmas.List.Folds.{list_any_at}
 use Rattle.std.proofs.lemmas.List.Elements.{Contains-push, Contains-append_left}
 use Rattle.px_scope.specs.Names.{is_name}
-use Rattle.px_scope.specs.Lawful.{AreDistinct, none, more}
+use Rattle.px_scope.specs.Lawful.{AreDistinct, more}
 
 contains_later : (y : List ℕ) (xs : List (List ℕ)) (x : List ℕ) → Contains xs x → Contains (y ∷ xs) x
 contains_later y xs x c = let within = c.1 in (suc c.0, omega arith, c.2)
@@ -48,8 +48,8 @@ not_among names name e c =
 
 -- A list with one name more, which stands in the table in any order.
 module _ (table before after front back : List (List ℕ)) (name : List ℕ)
-  (before_is : before ≡ front ++ back) (after_is : after ≡ front ++ name ∷ back)
-  (within : (other : List ℕ) → Contains before other → Contains table other) where
+    (before_is : before ≡ front ++ back) (after_is : after ≡ front ++ name ∷ back)
+    (within : (other : List ℕ) → Contains before other → Contains table other) where
   -- the list is still without equal names
   pub distinct_more : is_name table name ≡ false → AreDistinct before → AreDistinct after
   distinct_more new distinct =

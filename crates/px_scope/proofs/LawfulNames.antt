@@ -29,7 +29,7 @@ use Rattle.px_scope.specs.Declaring.{props_of, with_datatype, with_constructor, 
 use Rattle.px_scope.specs.ItemUses.{type_parameters_uses, constructor_uses, constructors_uses, data_uses, item_uses, text_uses}
 use Rattle.px_scope.specs.Programs.{constructor_names, start, IsNext, AreNext, IsNumbering}
 use Rattle.px_scope.specs.Answers.{Resolves}
-use Rattle.px_scope.specs.Lawful.{AreDistinct, IsUpper, IsLower, HaveForms, HasBool, type_names, con_names, lower_names, IsLawful}
+use Rattle.px_scope.specs.Lawful.{AreDistinct, IsUpper, IsLower, type_names, con_names, lower_names, IsLawful}
 use Rattle.px_scope.proofs.Firsts.{back_broken, fine_first}
 use Rattle.px_scope.proofs.ProgramSteps.{same_types, claims_types}
 use Rattle.px_scope.proofs.DistinctNames.{distinct_push, not_among, distinct_more, within_more}
@@ -97,7 +97,7 @@ distinct_constructors text T own number G (con ∷ cons) fine distinct =
     let here = constructor_uses text G T con in
     let others = constructors_uses text own (number + 1) (with_constructor own number G con) T cons in
     let new : is_name G.cons con.name.text ≡ false =
-          rule_kept con.name.at (is_name G.cons con.name.text) (first_broken (types_uses text G T con.fields)) (fine_front here others fine) in
+    rule_kept con.name.at (is_name G.cons con.name.text) (first_broken (types_uses text G T con.fields)) (fine_front here others fine) in
     subst AreDistinct (append_assoc G.cons (con.name.text ∷ []) (constructor_names cons))
     (distinct_constructors text T own (number + 1) (with_constructor own number G con) cons (fine_back here others fine)
     (distinct_push G.cons con.name.text distinct (not_among G.cons con.name.text new)))
@@ -120,9 +120,9 @@ datatype_stands text G names d fine named stand =
     let new : is_type_name G d.name.text ≡ false = rule_kept d.name.at (is_type_name G d.name.text) (first_broken (tparams ++ cons)) fine in
     let rest : first_broken cons ≡ None = fine_back tparams cons (fine_parts d.name.at (broken_where (is_type_name G d.name.text) Repeated) (first_broken (tparams ++ cons)) fine).1 in
     let flat : flat_map (λ (x : List (List ℕ)). x) (names.cons ++ constructor_names d.cons ∷ []) ≡ G.cons ++ constructor_names d.cons =
-          flat_map-append (λ (x : List (List ℕ)). x) names.cons (constructor_names d.cons ∷ [])
-          ∙ ap (λ xs. con_names names ++ xs) (append-nil (constructor_names d.cons))
-          ∙ ap (λ xs. xs ++ constructor_names d.cons) stand.cons in
+    flat_map-append (λ (x : List (List ℕ)). x) names.cons (constructor_names d.cons ∷ [])
+    ∙ ap (λ xs. con_names names ++ xs) (append-nil (constructor_names d.cons))
+    ∙ ap (λ xs. xs ++ constructor_names d.cons) stand.cons in
     let lawful = stand.lawful in
     let forms = lawful.forms in
     record {
@@ -171,7 +171,7 @@ definition_stands G H names name follows new named stand =
       types = stand.types ∙ sym follows.types;
       cons = stand.cons ∙ sym follows.cons;
       lowers = λ other c. subst (λ xs. Contains xs other) (sym follows.lowers)
-        (within_more G.lowers (lower_names names) (two ((names.defs ++ name ∷ []) ++ back)) front back name refl all stand.lowers other c);
+          (within_more G.lowers (lower_names names) (two ((names.defs ++ name ∷ []) ++ back)) front back name refl all stand.lowers other c);
       lawful = record {
         bool = record { datatype = lawful.bool.datatype; cons = lawful.bool.cons };
         types = lawful.types;
@@ -190,15 +190,15 @@ lemma_stands G H names name follows new named stand =
     let after = two (names.defs ++ ((names.lemmas ++ name ∷ []) ++ back)) in
     let before_is : lower_names names ≡ front ++ back = ap two (sym (append_assoc names.defs names.lemmas back)) in
     let all : after ≡ front ++ name ∷ back =
-          ap (λ xs. two (names.defs ++ xs)) (append_assoc names.lemmas (name ∷ []) back)
-          ∙ ap two (sym (append_assoc names.defs names.lemmas (name ∷ back))) in
+    ap (λ xs. two (names.defs ++ xs)) (append_assoc names.lemmas (name ∷ []) back)
+    ∙ ap two (sym (append_assoc names.defs names.lemmas (name ∷ back))) in
     let lawful = stand.lawful in
     let forms = lawful.forms in
     record {
       types = stand.types ∙ sym follows.types;
       cons = stand.cons ∙ sym follows.cons;
       lowers = λ other c. subst (λ xs. Contains xs other) (sym follows.lowers)
-        (within_more G.lowers (lower_names names) after front back name before_is all stand.lowers other c);
+          (within_more G.lowers (lower_names names) after front back name before_is all stand.lowers other c);
       lawful = record {
         bool = record { datatype = lawful.bool.datatype; cons = lawful.bool.cons };
         types = lawful.types;
@@ -215,15 +215,15 @@ replica_stands G H names name follows new named stand =
     let front = lower_names names in
     let after = two (names.defs ++ (names.lemmas ++ (names.replicas ++ name ∷ []))) in
     let all : after ≡ front ++ name ∷ [] =
-          ap (λ xs. two (names.defs ++ xs)) (sym (append_assoc names.lemmas names.replicas (name ∷ [])))
-          ∙ ap two (sym (append_assoc names.defs (names.lemmas ++ names.replicas) (name ∷ []))) in
+    ap (λ xs. two (names.defs ++ xs)) (sym (append_assoc names.lemmas names.replicas (name ∷ [])))
+    ∙ ap two (sym (append_assoc names.defs (names.lemmas ++ names.replicas) (name ∷ []))) in
     let lawful = stand.lawful in
     let forms = lawful.forms in
     record {
       types = stand.types ∙ sym follows.types;
       cons = stand.cons ∙ sym follows.cons;
       lowers = λ other c. subst (λ xs. Contains xs other) (sym follows.lowers)
-        (within_more G.lowers front after front [] name (sym (append-nil front)) all stand.lowers other c);
+          (within_more G.lowers front after front [] name (sym (append-nil front)) all stand.lowers other c);
       lawful = record {
         bool = record { datatype = lawful.bool.datatype; cons = lawful.bool.cons };
         types = lawful.types;
@@ -236,7 +236,9 @@ replica_stands G H names name follows new named stand =
 -- a declaration more
 next_stands : (text : List Item) (G : Globals) (P : RawProgram) {item : Item} {Q : RawProgram} →
     IsNext G P item Q → first_broken (item_uses text G item) ≡ None → IsNamedItem item → Stand G P.names → Stand (after G item) Q.names
-next_stands text G P (IsNext.datatype {d = d} is e) fine named stand = subst (λ (Q : RawProgram). Stand (after G (items.Datatype d)) Q.names) (sym e) (datatype_stands text G P.names d fine named stand)
+next_stands text G P (IsNext.datatype {d = d} is e) fine named stand =
+    subst (λ (Q : RawProgram). Stand (after G (items.Datatype d)) Q.names) (sym e)
+    (datatype_stands text G P.names d fine named stand)
 next_stands text G P (IsNext.definition {d = d} is e) fine named stand =
     subst (λ (Q : RawProgram). Stand (after G (items.Definition d)) Q.names) (sym e)
     (definition_stands G (after G (items.Definition d)) P.names d.name.text (record { types = refl; cons = refl; lowers = refl })
@@ -291,8 +293,8 @@ first_stands = record {
     forms = record {
       datatypes = All-cons IsUpper (codes "Bool") [] is_bool (All-nil IsUpper);
       cons = All-cons (All IsUpper) (codes "False" ∷ codes "True" ∷ []) []
-        (All-cons IsUpper (codes "False") (codes "True" ∷ []) is_false (All-cons IsUpper (codes "True") [] is_true (All-nil IsUpper)))
-        (All-nil (All IsUpper));
+          (All-cons IsUpper (codes "False") (codes "True" ∷ []) is_false (All-cons IsUpper (codes "True") [] is_true (All-nil IsUpper)))
+          (All-nil (All IsUpper));
       defs = All-nil IsLower;
       lemmas = All-nil IsLower;
       replicas = All-nil IsLower;
