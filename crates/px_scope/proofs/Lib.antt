@@ -1,11 +1,13 @@
 mod DataSteps
 mod DeclarationSteps
 mod DefinitionSteps
+mod DistinctNames
 mod Firsts
 mod FittingDeclarations
 mod FittingPrograms
 mod FittingTerms
 mod FittingTypes
+mod LawfulNames
 mod LookupSteps
 mod NameFacts
 mod OneProgram

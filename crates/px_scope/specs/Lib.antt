@@ -11,3 +11,4 @@ pub mod Fitting
 pub mod Answers
 pub mod Laws
 pub mod Small
+pub mod Lawful

@@ -6,6 +6,7 @@ ghost use Rattle.px_terms.specs.declared.limits.TheConstants.{PROGRAM_BYTES};
 ghost use Rattle.px_parser.specs.declared.surface.Item.TheVariants as items;
 ghost use Rattle.px_parser.specs.Sizes.{surface_size, IsWithinNesting};
 ghost use Rattle.px_parser.specs.Filled.{IsFilled};
+ghost use Rattle.px_parser.specs.Named.{AreNamed};
 ghost use Rattle.px_scope.specs.Standing.{built_in};
 ghost use Rattle.px_scope.specs.Uses.{Broken};
 ghost use Rattle.px_scope.specs.Declaring.{after};
@@ -13,6 +14,7 @@ ghost use Rattle.px_scope.specs.ItemUses.{item_uses, text_uses};
 ghost use Rattle.px_scope.specs.Programs.{constructor_names, start, raw_bool, IsNext, AreNext, IsNumbering, IsFault};
 ghost use Rattle.px_scope.specs.Fitting.{IsFitting};
 ghost use Rattle.px_scope.specs.Small.{IsSmallItem, IsSmall, HasRoom};
+ghost use Rattle.px_scope.specs.Lawful.{IsLawful};
 ghost use Rattle.px_scope.specs.Answers.{Resolves, IsEnd, IsUnlessNoMemory};
 
 use crate::data::resolve_data;
@@ -31,11 +33,15 @@ pub fn resolve(alloc: Global, surface: &Surface) -> Result<RawProgram, ScopeEnd>
     requires small { surface_size surface.now ≤ PROGRAM_BYTES }
     requires filled { IsFilled surface.now }
     requires nests { IsWithinNesting surface.now }
+    requires named { AreNamed surface.now }
     ensures ok { IfOk result (IsNumbering surface.now) }
     ensures fault { IfErr result (IsEnd surface.now) }
 
     // What is answered is as the check of types asks for it.
     ensures fitting { IfOk result IsFitting }
+
+    // `Bool` comes first, no two names of a kind are equal, and each has the form of its kind.
+    ensures lawful { IfOk result (λ program. IsLawful program.names) }
 
     // Unless memory runs out, the one numbered program is answered, and so is the one fault.
     ensures each_program { (P : AnyProgram) → IsNumbering surface.now P → IsUnlessNoMemory (Ok P) result }

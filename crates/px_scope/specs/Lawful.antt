@@ -1,0 +1,52 @@
+-- The names of a program are lawful.
+use Rattle.std.specs.Prelude.{◌≡◌, ℕ, List, [], ◌∷◌, ◌++◌, Some, codes, All, Contains, flat_map}
+use Rattle.std.specs.List.{slice_get}
+use Rattle.px_terms.specs.declared.program.Names.{Names}
+use Rattle.px_lexer.specs.declared.token.TokenKind.TheVariants.{Upper, Lower}
+use Rattle.px_lexer.specs.Forms.{HasForm}
+
+-- no two of the list are equal
+pub data AreDistinct : List (List ℕ) → Type 0 where
+  none : AreDistinct []
+  more : {x : List ℕ} {xs : List (List ℕ)} → ¬ Contains xs x → AreDistinct xs → AreDistinct (x ∷ xs)
+
+-- the name begins with a capital
+abbrev pub IsUpper : List ℕ → Type 0
+IsUpper name = HasForm name Upper
+
+-- the name begins with a small letter
+abbrev pub IsLower : List ℕ → Type 0
+IsLower name = HasForm name Lower
+
+-- each name has the form of its kind
+pub record HaveForms (names : Names) : Type 0 where
+  pub datatypes : All IsUpper names.datatypes
+  pub cons : All (All IsUpper) names.cons
+  pub defs : All IsLower names.defs
+  pub lemmas : All IsLower names.lemmas
+  pub replicas : All IsLower names.replicas
+
+-- the names of types
+abbrev pub type_names : Names → List (List ℕ)
+type_names names = codes "Word" ∷ names.datatypes
+
+-- the names of all constructors
+abbrev pub con_names : Names → List (List ℕ)
+con_names names = flat_map (λ (own : List (List ℕ)). own) names.cons
+
+-- the names of definitions, lemmas and replicas, and of the two comparisons of words
+abbrev pub lower_names : Names → List (List ℕ)
+lower_names names = codes "wle" ∷ codes "weq" ∷ (names.defs ++ (names.lemmas ++ names.replicas))
+
+-- the first datatype is `Bool`, and its constructors are `False` and `True`
+pub record HasBool (names : Names) : Type 0 where
+  pub datatype : slice_get names.datatypes 0 ≡ Some (codes "Bool")
+  pub cons : slice_get names.cons 0 ≡ Some (codes "False" ∷ codes "True" ∷ [])
+
+-- The names of a program: `Bool` comes first, no two of a kind are equal, and each has the form of its kind.
+pub record IsLawful (names : Names) : Type 0 where
+  pub bool : HasBool names
+  pub types : AreDistinct (type_names names)
+  pub constructors : AreDistinct (con_names names)
+  pub lowers : AreDistinct (lower_names names)
+  pub forms : HaveForms names
