@@ -33,11 +33,20 @@ pub(crate) fn resolve_data(
         return Err(fault(ScopeKind::Repeated, declaration.name.at));
     }
     let number = globals.datatypes.len() as u32;
-    globals.datatypes.add(alloc, declaration.name.text.as_str())?;
+    globals
+        .datatypes
+        .add(alloc, declaration.name.text.as_str())?;
     let mut types = TypeLocals::new(alloc);
     add_type_parameters(alloc, globals, &mut types, declaration.tparams.as_slice())?;
     types.own = Some(number);
-    let cons = resolve_constructors(alloc, text, globals, &types, number, declaration.cons.as_slice())?;
+    let cons = resolve_constructors(
+        alloc,
+        text,
+        globals,
+        &types,
+        number,
+        declaration.cons.as_slice(),
+    )?;
     Ok(RawData {
         at: declaration.name.at,
         tparams: declaration.tparams.len() as u32,
