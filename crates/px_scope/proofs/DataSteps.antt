@@ -1,9 +1,10 @@
 -- The constructors of a datatype, one after the other, and what they leave as it is.
-use Rattle.std.proofs.Common.{◌≡◌, ℕ, ◌+◌, ◌<◌, ◌≤◌, Bool, true, false, not, ◌||◌, List, [], ◌∷◌, ◌++◌, length, take, get_or, None, Some, Result, refl, sym, ap, ◌∙◌, subst}
+use Rattle.std.proofs.Common.{◌≡◌, ℕ, ◌+◌, ◌<◌, ◌≤◌, Bool, true, false, not, ◌||◌, List, [], ◌∷◌, ◌++◌, map, length, take, get_or, None, Some, Result, refl, sym, ap, ◌∙◌, subst, arith, length-append, append-nil, append_assoc}
 use Rattle.std.specs.Prelude.{if◌then◌else◌}
-use Rattle.std.specs.List.{fold}
+use Rattle.std.specs.List.{fold, range_with_len}
 use Rattle.std.specs.Result.{IsErrAnd}
-use Rattle.std.proofs.lemmas.List.{take_more, take_all}
+use Rattle.std.proofs.lemmas.List.{take_more, take_all, length-take-le, map_push}
+use Rattle.std.proofs.lemmas.List.FromFn.{map-range_with_len_more}
 use Rattle.px_terms.specs.declared.raw.RawTy.{RawTy}
 use Rattle.px_terms.specs.declared.raw.RawCon.{RawCon}
 use Rattle.px_terms.specs.declared.raw.RawData.{RawData}
@@ -22,9 +23,9 @@ use Rattle.px_scope.specs.declared.locals.TypeLocals.{TypeLocals}
 use Rattle.px_scope.specs.Names.{is_name}
 use Rattle.px_scope.specs.Standing.{type_of, no_parameters}
 use Rattle.px_scope.specs.Rules.{is_type_name, new_type_fault, new_constructor_fault}
-use Rattle.px_scope.specs.Uses.{Use, first_broken, along, type_uses, types_uses}
+use Rattle.px_scope.specs.Uses.{Use, first_broken, type_uses, types_uses}
 use Rattle.px_scope.specs.Numbers.{IsType, written, AreTypes, none, more}
-use Rattle.px_scope.specs.Declaring.{with_datatype, with_constructor, with_constructors, after, with_type_parameter, type_locals, data_locals}
+use Rattle.px_scope.specs.Declaring.{constructor_names, with_datatype, with_constructor_name, with_constructors, after, with_type_parameter, type_locals, data_locals}
 use Rattle.px_scope.specs.ItemUses.{type_parameters_uses, constructor_uses, constructors_uses, data_uses}
 use Rattle.px_scope.specs.Programs.{IsData, AreConstructors, none as no_constructors, more as more_constructors}
 use Rattle.px_scope.specs.Answers.{Fails, Fine, Resolves}
@@ -51,34 +52,28 @@ module _ (G H : Globals) (T : TypeLocals) (same : H.datatypes ≡ G.datatypes) w
     types_kept _ _ none = none
     types_kept _ _ (more {s = s} {ss = ss} {t = t} {ts = ts} first others) = more (type_kept s t first) (types_kept ss ts others)
 
--- What is declared, and how many constructors of the datatype are among it.
-pub record Counted : Type 0 where
-  pub number : ℕ
-  pub globals : Globals
+-- one constructor more, of this datatype and with this number in it
+abbrev pub with_constructor : ℕ → ℕ → Globals → SCon → Globals
+with_constructor datatype number G con = record G { cons = G.cons ++ con.name.text ∷ []; constructors = G.constructors ++ record { datatype = datatype; number = number } ∷ [] }
 
--- one constructor more
-abbrev pub counted_next : ℕ → Counted → SCon → Counted
-counted_next datatype C con = record { number = C.number + 1; globals = with_constructor datatype C.number C.globals con }
+-- one constructor more, where these are declared
+with_last : (datatype : ℕ) (G : Globals) (cons : List SCon) (con : SCon) (number : ℕ) → number ≡ length cons → with_constructor datatype number (with_constructors datatype G cons) con ≡ with_constructors datatype G (cons ++ con ∷ [])
+with_last datatype G cons con number last =
+    let one : ℕ → Constructor = λ n. record { datatype = datatype; number = n } in
+    let names : constructor_names (cons ++ con ∷ []) ≡ constructor_names cons ++ con.name.text ∷ [] = map_push (λ (c : SCon). c.name.text) cons con in
+    let count : length (cons ++ con ∷ []) ≡ length cons + 1 = length-append cons (con ∷ []) in
+    let numbers : map one (range_with_len 0 (length (cons ++ con ∷ []))) ≡ map one (range_with_len 0 (length cons)) ++ one number ∷ [] = ap (λ n. map one (range_with_len 0 n)) count ∙ map-range_with_len_more one 0 (length cons) number (omega arith) in
+    rw (names, numbers, append_assoc G.cons, append_assoc) refl
 
 -- the names in one constructor more
-abbrev pub counted_uses : List Item → TypeLocals → Counted → SCon → List Use
-counted_uses text T C con = constructor_uses text C.globals T con
-
--- the names in constructors, by what is declared before each of them
-pub counted_along : (text : List Item) (datatype number : ℕ) (G : Globals) (T : TypeLocals) (cons : List SCon) → along (counted_next datatype) (counted_uses text T) (record { number = number; globals = G }) cons ≡ constructors_uses text datatype number G T cons
-counted_along text datatype number G T [] = refl
-counted_along text datatype number G T (con ∷ cons) = ap (λ us. constructor_uses text G T con ++ us) (counted_along text datatype (number + 1) (with_constructor datatype number G con) T cons)
-
--- what is declared after them
-pub counted_fold : (datatype number : ℕ) (G : Globals) (cons : List SCon) → (fold (counted_next datatype) (record { number = number; globals = G }) cons).globals ≡ with_constructors datatype number G cons
-counted_fold datatype number G [] = refl
-counted_fold datatype number G (con ∷ cons) = counted_fold datatype (number + 1) (with_constructor datatype number G con) cons
+abbrev pub constructor_use : List Item → TypeLocals → Globals → SCon → List Use
+constructor_use text T G con = constructor_uses text G T con
 
 -- The first constructors, so many, break no rule, and are these.
 pub record AreConstructorsSoFar (text : List Item) (datatype : ℕ) (G : Globals) (T : TypeLocals) (cons : List SCon) (i : ℕ) (now : Globals) (raws : List RawCon) : Type 0 where
-  pub reached : Reached (counted_next datatype) (counted_uses text T) (record { number = 0; globals = G }) (take i cons) (record { number = i; globals = now })
+  pub reached : Reached with_constructor_name (constructor_use text T) G (take i cons) (record G { cons = now.cons })
   pub are : AreConstructors G T (take i cons) raws
-  pub same_datatypes : now.datatypes ≡ G.datatypes
+  pub is : now ≡ with_constructors datatype G (take i cons)
 
 -- one constructor more
 pub constructors_push : (G : Globals) (T : TypeLocals) (cons : List SCon) (raws : List RawCon) (con : SCon) (fields : List RawTy) (raw : RawCon) → AreConstructors G T cons raws → AreTypes G T con.fields fields → raw ≡ record { at = con.name.at; fields = fields } → AreConstructors G T (cons ++ con ∷ []) (raws ++ raw ∷ [])
@@ -90,10 +85,10 @@ module _ (text : List Item) (datatype : ℕ) (G : Globals) (T : TypeLocals) (con
   one_more = take_more cons i con within ∙ ap (λ other. take i cons ++ other ∷ []) (sym at)
 
   -- the constructor's name is declared already
-  pub constructor_repeats : (end : ScopeEnd) → is_new ≡ false → end ≡ Fault Repeated con.name.at → Fails (first_broken (constructors_uses text datatype 0 G T cons)) end
+  pub constructor_repeats : (end : ScopeEnd) → is_new ≡ false → end ≡ Fault Repeated con.name.at → Fails (first_broken (constructors_uses text G T cons)) end
   constructor_repeats end old fault =
       let found : is_name now.cons con.name.text ≡ true = rw (← same) (known ∙ ap not old) in
-      rw (← counted_along text datatype 0 G T cons) (reached_broken (counted_next datatype) (counted_uses text T) (record { number = 0; globals = G }) cons i (record { number = i; globals = now }) con end within at so_far.reached (rw (fault, found) refl))
+      reached_broken with_constructor_name (constructor_use text T) G cons i (record G { cons = now.cons }) con end within at so_far.reached (rw (fault, found) refl)
 
   module _ (new : is_new ≡ true) where
     no_fault : new_constructor_fault now con.name.text ≡ None
@@ -108,21 +103,26 @@ module _ (text : List Item) (datatype : ℕ) (G : Globals) (T : TypeLocals) (con
         rw (named, push) refl
 
     module _ (later : Globals) (kept : later.datatypes ≡ now.datatypes) (ss : List SType) (fields_are : ss ≡ con.fields) where
+      same_datatypes : later.datatypes ≡ G.datatypes
+      same_datatypes = kept ∙ ap (λ (H : Globals). H.datatypes) so_far.is
+
+      fields_uses : types_uses text later T ss ≡ types_uses text (record G { cons = now.cons }) T con.fields
+      fields_uses = types_uses_kept (record G { cons = now.cons }) later T same_datatypes text ss ∙ ap (types_uses text (record G { cons = now.cons }) T) fields_are
+
       -- the types of its fields fail
-      pub constructor_fields_fail : {Z : Type 0} (Is : Z → Type 0) (r : Result Z ScopeEnd) (end : ScopeEnd) → IsErrAnd r (λ e. e ≡ end) → Fails (first_broken (types_uses text later T ss)) end → Resolves (constructors_uses text datatype 0 G T cons) Is r
+      pub constructor_fields_fail : {Z : Type 0} (Is : Z → Type 0) (r : Result Z ScopeEnd) (end : ScopeEnd) → IsErrAnd r (λ e. e ≡ end) → Fails (first_broken (types_uses text later T ss)) end → Resolves (constructors_uses text G T cons) Is r
       constructor_fields_fail Is r end is fails =
-          let here : Fails (first_broken (types_uses text now T con.fields)) end = subst (λ us. Fails (first_broken us) end) (types_uses_kept now later T kept text con.fields) (subst (λ fs. Fails (first_broken (types_uses text later T fs)) end) fields_are fails) in
-          subst (λ us. Resolves us Is r) (counted_along text datatype 0 G T cons) (reached_fails (counted_next datatype) (counted_uses text T) (record { number = 0; globals = G }) cons i (record { number = i; globals = now }) Is con r end within at so_far.reached is (fails_later con.name.at (new_constructor_fault now con.name.text) (types_uses text now T con.fields) end no_fault here))
+          reached_fails with_constructor_name (constructor_use text T) G cons i (record G { cons = now.cons }) Is con r end within at so_far.reached is (fails_later con.name.at (new_constructor_fault now con.name.text) (types_uses text (record G { cons = now.cons }) T con.fields) end no_fault (subst (λ us. Fails (first_broken us) end) fields_uses fails))
 
       -- one constructor more
       pub constructor_next : (fields : List RawTy) (raw : RawCon) (out : List RawCon) → Fine (types_uses text later T ss) (AreTypes later T ss) fields → raw ≡ record { at = con.name.at; fields = fields } → out ≡ raws ++ raw ∷ [] → later ≡ with_constructor datatype i now con → AreConstructorsSoFar text datatype G T cons (i + 1) later out
       constructor_next fields raw out (fine, are) is pushed is_later =
-          let fields_fine : first_broken (types_uses text now T con.fields) ≡ None = subst (λ us. first_broken us ≡ None) (types_uses_kept now later T kept text con.fields) (subst (λ fs. first_broken (types_uses text later T fs) ≡ None) fields_are fine) in
-          let fields_are_types : AreTypes G T con.fields fields = types_kept G later T (kept ∙ so_far.same_datatypes) con.fields fields (subst (λ fs. AreTypes later T fs fields) fields_are are) in
+          let fields_are_types : AreTypes G T con.fields fields = types_kept G later T same_datatypes con.fields fields (subst (λ fs. AreTypes later T fs fields) fields_are are) in
+          let count : i ≡ length (take i cons) = sym (length-take-le i cons (omega (arith, within))) in
           record {
-            reached = reached_next (counted_next datatype) (counted_uses text T) (record { number = 0; globals = G }) cons i (record { number = i; globals = now }) con (record { number = i + 1; globals = later }) within at so_far.reached (fine_first con.name.at (new_constructor_fault now con.name.text) (types_uses text now T con.fields) no_fault fields_fine) (ap (λ (H : Globals). record { number = i + 1; globals = H }) is_later);
+            reached = reached_next with_constructor_name (constructor_use text T) G cons i (record G { cons = now.cons }) con (record G { cons = later.cons }) within at so_far.reached (fine_first con.name.at (new_constructor_fault now con.name.text) (types_uses text (record G { cons = now.cons }) T con.fields) no_fault (ap first_broken (sym fields_uses) ∙ fine)) (ap (λ (H : Globals). record G { cons = H.cons }) is_later);
             are = rw (one_more, pushed) (constructors_push G T (take i cons) raws con fields raw so_far.are fields_are_types is);
-            same_datatypes = kept ∙ so_far.same_datatypes;
+            is = is_later ∙ ap (λ (H : Globals). with_constructor datatype i H con) so_far.is ∙ with_last datatype G (take i cons) con i count ∙ ap (with_constructors datatype G) (sym one_more);
           }
 
 -- no constructors
@@ -130,14 +130,14 @@ pub no_constructors_yet : (text : List Item) (datatype : ℕ) (G : Globals) (T :
 no_constructors_yet text datatype G T cons raws empty = record {
   reached = record { fine = refl; is = refl };
   are = rw empty no_constructors;
-  same_datatypes = refl;
+  is = rw (append-nil G.cons, append-nil) refl;
 }
 
 -- all constructors were seen
-pub constructors_all : (text : List Item) (datatype : ℕ) (G : Globals) (T : TypeLocals) (cons : List SCon) (i : ℕ) (now : Globals) (raws : List RawCon) → length cons ≤ i → AreConstructorsSoFar text datatype G T cons i now raws → Fine (constructors_uses text datatype 0 G T cons) (λ (rs : List RawCon). AreConstructors G T cons rs × (now ≡ with_constructors datatype 0 G cons)) raws
+pub constructors_all : (text : List Item) (datatype : ℕ) (G : Globals) (T : TypeLocals) (cons : List SCon) (i : ℕ) (now : Globals) (raws : List RawCon) → length cons ≤ i → AreConstructorsSoFar text datatype G T cons i now raws → Fine (constructors_uses text G T cons) (λ (rs : List RawCon). AreConstructors G T cons rs × (now ≡ with_constructors datatype G cons)) raws
 constructors_all text datatype G T cons i now raws ends so_far =
-    let all : Reached (counted_next datatype) (counted_uses text T) (record { number = 0; globals = G }) cons (record { number = i; globals = now }) = reached_all (counted_next datatype) (counted_uses text T) (record { number = 0; globals = G }) cons i (record { number = i; globals = now }) ends so_far.reached in
-    (ap first_broken (sym (counted_along text datatype 0 G T cons)) ∙ all.fine, (subst (λ cs. AreConstructors G T cs raws) (take_all i cons ends) so_far.are, ap (λ (C : Counted). C.globals) all.is ∙ counted_fold datatype 0 G cons))
+    let all : take i cons ≡ cons = take_all i cons ends in
+    ((reached_all with_constructor_name (constructor_use text T) G cons i (record G { cons = now.cons }) ends so_far.reached).fine, (subst (λ cs. AreConstructors G T cs raws) all so_far.are, so_far.is ∙ ap (with_constructors datatype G) all))
 
 other_false : (a b : Bool) → (a || b) ≡ false → b ≡ false
 other_false true b e = cc
@@ -169,7 +169,7 @@ module _ (text : List Item) (G : Globals) (d : SData) (first : List ℕ) (known 
     -- the type parameters of a datatype fail
     pub data_tparams_fail : {Z : Type 0} (Is : Z → Type 0) (r : Result Z ScopeEnd) (end : ScopeEnd) → IsErrAnd r (λ e. e ≡ end) → Fails (first_broken (type_parameters_uses H U names)) end → Resolves (data_uses text G d) Is r
     data_tparams_fail Is r end is_end fails =
-        passed_on Is (data_uses text G d) r end is_end (fails_later d.name.at (new_type_fault G d.name.text) (type_parameters_uses (with_datatype G d.name) no_parameters d.tparams ++ constructors_uses text (length G.datatypes) 0 (with_datatype G d.name) (data_locals (length G.datatypes) d.tparams) d.cons) end new_type (fails_front (type_parameters_uses (with_datatype G d.name) no_parameters d.tparams) (constructors_uses text (length G.datatypes) 0 (with_datatype G d.name) (data_locals (length G.datatypes) d.tparams) d.cons) end (subst (λ us. Fails (first_broken us) end) params_uses fails)))
+        passed_on Is (data_uses text G d) r end is_end (fails_later d.name.at (new_type_fault G d.name.text) (type_parameters_uses (with_datatype G d.name) no_parameters d.tparams ++ constructors_uses text (with_datatype G d.name) (data_locals (length G.datatypes) d.tparams) d.cons) end new_type (fails_front (type_parameters_uses (with_datatype G d.name) no_parameters d.tparams) (constructors_uses text (with_datatype G d.name) (data_locals (length G.datatypes) d.tparams) d.cons) end (subst (λ us. Fails (first_broken us) end) params_uses fails)))
 
     module _ (V : TypeLocals) (number : ℕ) (cons : List SCon) (params_fine : first_broken (type_parameters_uses H U names) ≡ None) (V_is : V ≡ fold with_type_parameter U names) (number_is : number ≡ length G.datatypes) (cons_are : cons ≡ d.cons) where
       locals_are : record V { own = Some number } ≡ data_locals (length G.datatypes) d.tparams
@@ -177,18 +177,18 @@ module _ (text : List Item) (G : Globals) (d : SData) (first : List ℕ) (known 
           let V_are : V ≡ type_locals d.tparams = V_is ∙ (rw (U_is, names_are) refl) ∙ type_locals_are d.tparams in
           rw (V_are, number_is) refl
 
-      cons_uses : constructors_uses text number 0 H (record V { own = Some number }) cons ≡ constructors_uses text (length G.datatypes) 0 (with_datatype G d.name) (data_locals (length G.datatypes) d.tparams) d.cons
-      cons_uses = rw (locals_are, number_is, H_is, cons_are) refl
+      cons_uses : constructors_uses text H (record V { own = Some number }) cons ≡ constructors_uses text (with_datatype G d.name) (data_locals (length G.datatypes) d.tparams) d.cons
+      cons_uses = rw (locals_are, H_is, cons_are) refl
 
       -- the constructors of a datatype fail
-      pub data_cons_fail : {Z : Type 0} (Is : Z → Type 0) (r : Result Z ScopeEnd) (end : ScopeEnd) → IsErrAnd r (λ e. e ≡ end) → Fails (first_broken (constructors_uses text number 0 H (record V { own = Some number }) cons)) end → Resolves (data_uses text G d) Is r
+      pub data_cons_fail : {Z : Type 0} (Is : Z → Type 0) (r : Result Z ScopeEnd) (end : ScopeEnd) → IsErrAnd r (λ e. e ≡ end) → Fails (first_broken (constructors_uses text H (record V { own = Some number }) cons)) end → Resolves (data_uses text G d) Is r
       data_cons_fail Is r end is_end fails =
-          passed_on Is (data_uses text G d) r end is_end (fails_later d.name.at (new_type_fault G d.name.text) (type_parameters_uses (with_datatype G d.name) no_parameters d.tparams ++ constructors_uses text (length G.datatypes) 0 (with_datatype G d.name) (data_locals (length G.datatypes) d.tparams) d.cons) end new_type (fails_back (type_parameters_uses (with_datatype G d.name) no_parameters d.tparams) (constructors_uses text (length G.datatypes) 0 (with_datatype G d.name) (data_locals (length G.datatypes) d.tparams) d.cons) end (ap first_broken (sym params_uses) ∙ params_fine) (subst (λ us. Fails (first_broken us) end) cons_uses fails)))
+          passed_on Is (data_uses text G d) r end is_end (fails_later d.name.at (new_type_fault G d.name.text) (type_parameters_uses (with_datatype G d.name) no_parameters d.tparams ++ constructors_uses text (with_datatype G d.name) (data_locals (length G.datatypes) d.tparams) d.cons) end new_type (fails_back (type_parameters_uses (with_datatype G d.name) no_parameters d.tparams) (constructors_uses text (with_datatype G d.name) (data_locals (length G.datatypes) d.tparams) d.cons) end (ap first_broken (sym params_uses) ∙ params_fine) (subst (λ us. Fails (first_broken us) end) cons_uses fails)))
 
       -- a datatype, where its parts are known
-      pub data_fine : (raws : List RawCon) (later : Globals) (count : ℕ) (raw : RawData) → first_broken (constructors_uses text number 0 H (record V { own = Some number }) cons) ≡ None → AreConstructors H (record V { own = Some number }) cons raws → later ≡ with_constructors number 0 H cons → count ≡ length d.tparams → raw ≡ record { at = d.name.at; tparams = count; cons = raws } → Fine (data_uses text G d) (λ (result : RawData). IsData G d result × (later ≡ after G (items.Datatype d))) raw
+      pub data_fine : (raws : List RawCon) (later : Globals) (count : ℕ) (raw : RawData) → first_broken (constructors_uses text H (record V { own = Some number }) cons) ≡ None → AreConstructors H (record V { own = Some number }) cons raws → later ≡ with_constructors number H cons → count ≡ length d.tparams → raw ≡ record { at = d.name.at; tparams = count; cons = raws } → Fine (data_uses text G d) (λ (result : RawData). IsData G d result × (later ≡ after G (items.Datatype d))) raw
       data_fine raws later count raw cons_fine are is_later counted raw_is = (
-        fine_first d.name.at (new_type_fault G d.name.text) (type_parameters_uses (with_datatype G d.name) no_parameters d.tparams ++ constructors_uses text (length G.datatypes) 0 (with_datatype G d.name) (data_locals (length G.datatypes) d.tparams) d.cons) new_type (fine_both (type_parameters_uses (with_datatype G d.name) no_parameters d.tparams) (constructors_uses text (length G.datatypes) 0 (with_datatype G d.name) (data_locals (length G.datatypes) d.tparams) d.cons) (ap first_broken (sym params_uses) ∙ params_fine) (ap first_broken (sym cons_uses) ∙ cons_fine)),
+        fine_first d.name.at (new_type_fault G d.name.text) (type_parameters_uses (with_datatype G d.name) no_parameters d.tparams ++ constructors_uses text (with_datatype G d.name) (data_locals (length G.datatypes) d.tparams) d.cons) new_type (fine_both (type_parameters_uses (with_datatype G d.name) no_parameters d.tparams) (constructors_uses text (with_datatype G d.name) (data_locals (length G.datatypes) d.tparams) d.cons) (ap first_broken (sym params_uses) ∙ params_fine) (ap first_broken (sym cons_uses) ∙ cons_fine)),
         (
           record {
             cons = raws;

@@ -2,7 +2,7 @@
 use Rattle.std.proofs.Common.{◌≡◌, ℕ, ◌+◌, ◌<◌, List, [], ◌∷◌, ◌++◌, length, take, get_or, None, Result, sym, ap, ◌∙◌, subst, arith}
 use Rattle.std.specs.List.{fold}
 use Rattle.std.specs.Result.{IsErrAnd}
-use Rattle.std.proofs.lemmas.List.{take_more}
+use Rattle.std.proofs.lemmas.List.Sums.{sum_by_more}
 use Rattle.px_terms.specs.declared.raw.RawEquation.{RawEquation}
 use Rattle.px_parser.specs.declared.surface.Name.{Name}
 use Rattle.px_parser.specs.declared.surface.SParam.{SParam}
@@ -59,13 +59,7 @@ pub equations_push : (G : Globals) (L : Locals) (es : List SEquation) (rs : List
 equations_push G L _ _ e r none is = more is none
 equations_push G L _ _ e r (more {es = es} {rs = rs} first others) is = more first (equations_push G L es rs e r others is)
 
-functions_of_one : (xs : List SParam) (p : SParam) → function_count (xs ++ p ∷ []) ≡ function_count xs + functions_in p.kind
-functions_of_one [] p = omega arith
-functions_of_one (x ∷ xs) p = let rest = functions_of_one xs p in omega (arith, rest)
-
 -- the functions among one parameter more
 pub functions_next : (xs : List SParam) (i : ℕ) (p : SParam) (count one : ℕ) → i < length xs → p ≡ get_or xs i p → count ≡ function_count (take i xs) → one ≡ functions_in p.kind → count + one ≡ function_count (take (i + 1) xs)
 functions_next xs i p count one within at is one_is =
-    let more : take (i + 1) xs ≡ take i xs ++ p ∷ [] = take_more xs i p within ∙ ap (λ z. take i xs ++ z ∷ []) (sym at) in
-    let next : function_count (take (i + 1) xs) ≡ function_count (take i xs) + functions_in p.kind = ap function_count more ∙ functions_of_one (take i xs) p in
-    omega (arith, next)
+    omega (arith, sum_by_more (λ (q : SParam). functions_in q.kind) xs i p within, ap (λ (q : SParam). functions_in q.kind) at)

@@ -1,10 +1,11 @@
 -- A numbered program is as the check of types asks for it.
 use Rattle.std.proofs.Common.{◌≡◌, ℕ, zero, suc, ◌+◌, ◌<◌, ◌≤◌, ◌^◌, List, [], ◌∷◌, ◌++◌, map, sum, length, Option, Some, None, Result, Ok, Err, refl, sym, ap, ◌∙◌, subst, arith, length-append, append-nil, append_assoc}
 use Rattle.std.specs.Prelude.{IfOk, All, codes}
-use Rattle.std.specs.List.{slice_get}
+use Rattle.std.specs.List.{slice_get, range_with_len}
 use Rattle.std.proofs.lemmas.List.{length-map}
+use Rattle.std.proofs.lemmas.List.FromFn.{length-map-range_with_len, get_or-map-range_with_len}
 use Rattle.std.proofs.lemmas.List.Sums.{sum-map, sum_by_push}
-use Rattle.std.proofs.lemmas.List.Elements.{All-nil, All-cons, All-head, All-tail, All-weaker, All-push}
+use Rattle.std.proofs.lemmas.List.Elements.{All-nil, All-cons, All-head, All-tail, All-append, All-weaker, All-push}
 use Rattle.px_terms.specs.declared.limits.TheConstants.{PROGRAM_BYTES}
 use Rattle.px_terms.specs.declared.types.Prop.{Prop}
 use Rattle.px_terms.specs.declared.raw.Decl.{Decl}
@@ -27,14 +28,14 @@ use Rattle.px_scope.specs.declared.globals.Meaning.TheVariants as meaning
 use Rattle.px_scope.specs.declared.globals.Globals.{Globals}
 use Rattle.px_scope.specs.Standing.{meaning_of, built_in}
 use Rattle.px_scope.specs.Uses.{first_broken}
-use Rattle.px_scope.specs.Declaring.{props_of, with_datatype, with_constructor, with_constructors, function_count, with_claims_of, after}
+use Rattle.px_scope.specs.Declaring.{props_of, constructor_names, with_datatype, with_constructors, function_count, with_claims_of, after}
 use Rattle.px_scope.specs.ItemUses.{text_uses}
-use Rattle.px_scope.specs.Programs.{constructor_names, IsNext, AreNext, raw_bool, start, IsNumbering}
+use Rattle.px_scope.specs.Programs.{IsNext, AreNext, raw_bool, start, IsNumbering}
 use Rattle.px_scope.specs.Fitting.{AreInOrder, HasNames, def_props, claim_props, obligation_count, bool_alone, IsFitting}
 use Rattle.px_scope.specs.Answers.{Resolves}
 use Rattle.px_scope.proofs.FittingTerms.{IsMeaningIn}
 use Rattle.px_scope.proofs.FittingDeclarations.{constructors_count, IsDeclared, Agrees, IsFront, counts_of, meaning_weaker, data_in, def_in, claim_in, lemma_in, replica_in}
-use Rattle.px_scope.proofs.ProgramSteps.{same_types, same_claims, claims_types, claims_count}
+use Rattle.px_scope.proofs.ProgramSteps.{claims_types, claims_count}
 
 -- a list is the front of itself, and of the list with one item more
 front_push : {A : Type 0} (xs : List A) (x : A) → IsFront xs (xs ++ x ∷ [])
@@ -86,17 +87,13 @@ all_extend {P = P} AreNext.none = extends_itself P
 all_extend {G = G} {P = P} {Q = R} (AreNext.more {Q = Q} first rest) = extends_again P Q R (next_extends G P first) (all_extend rest)
 
 -- the constructors of one datatype more
-added_constructors : (F : Constructor → Type 0) (own number : ℕ) (G : Globals) (cons : List SCon) → All F G.constructors →
-    ((n : ℕ) → n < number + length cons → F (record { datatype = own; number = n })) → All F (with_constructors own number G cons).constructors
-added_constructors F own number G [] all new = all
-added_constructors F own number G (con ∷ cons) all new =
-    added_constructors F own (number + 1) (with_constructor own number G con) cons
-    (All-push F G.constructors (record { datatype = own; number = number }) all (new number (omega arith)))
-    (λ n below. new n (omega arith))
-
-same_meanings : (own number : ℕ) (G : Globals) (cons : List SCon) → (with_constructors own number G cons).meanings ≡ G.meanings
-same_meanings own number G [] = refl
-same_meanings own number G (con ∷ cons) = same_meanings own (number + 1) (with_constructor own number G con) cons
+added_constructors : (F : Constructor → Type 0) (own : ℕ) (G : Globals) (cons : List SCon) → All F G.constructors →
+    ((n : ℕ) → n < length cons → F (record { datatype = own; number = n })) → All F (with_constructors own G cons).constructors
+added_constructors F own G cons all new =
+    let one : ℕ → Constructor = λ n. record { datatype = own; number = n } in
+    All-append F G.constructors (map one (range_with_len 0 (length cons))) all
+    (λ n d within. let below : n < length cons = omega (arith, length-map-range_with_len one 0 (length cons)) in
+    subst F (sym (get_or-map-range_with_len one 0 (length cons) n n d below (omega arith))) (new n below))
 
 claims_meanings : (G : Globals) (m : Option Meaning) (props : List Prop) → (with_claims_of G m props).meanings ≡ G.meanings
 claims_meanings G None props = refl
@@ -129,11 +126,11 @@ agrees_next G P agrees (IsNext.datatype {d = d} {raw = raw} {result = Q} is e) =
     let stands : slice_get Q.datatypes own ≡ Some raw = rw (all, agrees.types) (end_of P.datatypes raw) in
     let cons : length raw.cons ≡ length d.cons = ap (λ (x : RawData). length x.cons) is.is ∙ constructors_count is.are_constructors in
     record {
-      types = ap length (same_types own 0 H d.cons) ∙ omega (arith, agrees.types, ap length all, length-append G.datatypes (d.name.text ∷ []), length-append P.datatypes (raw ∷ []));
-      definitions = ap length (same_claims own 0 H d.cons) ∙ agrees.definitions ∙ ap length (sym defs);
-      constructors = added_constructors (IsDeclared Q) own 0 H d.cons (still_declared P Q front G.constructors agrees.constructors)
+      types = omega (arith, agrees.types, ap length all, length-append G.datatypes (d.name.text ∷ []), length-append P.datatypes (raw ∷ []));
+      definitions = agrees.definitions ∙ ap length (sym defs);
+      constructors = added_constructors (IsDeclared Q) own H d.cons (still_declared P Q front G.constructors agrees.constructors)
           (λ n below. record { declared = raw; stands = stands; has = omega arith });
-      meanings = rw (same_meanings own 0 H d.cons, defs) agrees.meanings;
+      meanings = rw defs agrees.meanings;
     }
 agrees_next G P agrees (IsNext.definition {d = d} {raw = raw} {result = Q} is e) =
     let front : IsFront P.datatypes Q.datatypes = (next_extends G P (IsNext.definition is e)).datatypes in

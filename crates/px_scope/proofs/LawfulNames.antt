@@ -1,5 +1,5 @@
 -- The names of a numbered program are lawful.
-use Rattle.std.proofs.Common.{◌≡◌, ℕ, ◌+◌, Bool, true, false, List, [], ◌∷◌, ◌++◌, length, Option, Some, None, Result, Ok, Err, IfOk, refl, sym, ap, ◌∙◌, subst, append-nil, append_assoc}
+use Rattle.std.proofs.Common.{◌≡◌, ℕ, Bool, true, false, List, [], ◌∷◌, ◌++◌, length, Option, Some, None, Result, Ok, Err, IfOk, refl, sym, ap, ◌∙◌, subst, append-nil, append_assoc}
 use Rattle.std.specs.Prelude.{All, Contains, codes, flat_map}
 use Rattle.std.specs.List.{slice_get}
 use Rattle.std.proofs.lemmas.Grind.{flat_map-append}
@@ -25,13 +25,13 @@ use Rattle.px_scope.specs.Names.{is_name}
 use Rattle.px_scope.specs.Standing.{meaning_of, no_parameters, built_in}
 use Rattle.px_scope.specs.Rules.{broken_where, is_type_name}
 use Rattle.px_scope.specs.Uses.{Use, Broken, broken_or, first_broken, along, types_uses}
-use Rattle.px_scope.specs.Declaring.{props_of, with_datatype, with_constructor, with_constructors, with_claims_of, after, data_locals}
+use Rattle.px_scope.specs.Declaring.{props_of, constructor_names, with_datatype, with_constructor_name, with_claims_of, after, data_locals}
 use Rattle.px_scope.specs.ItemUses.{type_parameters_uses, constructor_uses, constructors_uses, data_uses, item_uses, text_uses}
-use Rattle.px_scope.specs.Programs.{constructor_names, start, IsNext, AreNext, IsNumbering}
+use Rattle.px_scope.specs.Programs.{start, IsNext, AreNext, IsNumbering}
 use Rattle.px_scope.specs.Answers.{Resolves}
 use Rattle.px_scope.specs.Lawful.{AreDistinct, IsUpper, IsLower, type_names, con_names, lower_names, IsLawful}
 use Rattle.px_scope.proofs.Firsts.{back_broken, fine_first}
-use Rattle.px_scope.proofs.ProgramSteps.{same_types, claims_types}
+use Rattle.px_scope.proofs.ProgramSteps.{claims_types}
 use Rattle.px_scope.proofs.DistinctNames.{distinct_push, not_among, distinct_more, within_more}
 
 -- what follows where no name is broken
@@ -64,15 +64,6 @@ first_stays : {A : Type 0} (xs : List A) (x y : A) → slice_get xs 0 ≡ Some y
 first_stays [] x y e = absurd cc
 first_stays (a ∷ xs) x y e = e
 
--- the constructors after those of one datatype more
-cons_after : (own number : ℕ) (G : Globals) (cons : List SCon) → (with_constructors own number G cons).cons ≡ G.cons ++ constructor_names cons
-cons_after own number G [] = sym (append-nil G.cons)
-cons_after own number G (con ∷ cons) = cons_after own (number + 1) (with_constructor own number G con) cons ∙ append_assoc G.cons (con.name.text ∷ []) (constructor_names cons)
-
-same_lowers : (own number : ℕ) (G : Globals) (cons : List SCon) → (with_constructors own number G cons).lowers ≡ G.lowers
-same_lowers own number G [] = refl
-same_lowers own number G (con ∷ cons) = same_lowers own (number + 1) (with_constructor own number G con) cons
-
 claims_cons : (G : Globals) (m : Option Meaning) (props : List Prop) → (with_claims_of G m props).cons ≡ G.cons
 claims_cons G None props = refl
 claims_cons G (Some meaning.Wle) props = refl
@@ -90,16 +81,16 @@ claims_lowers G (Some meaning.Lemma) props = refl
 claims_lowers G (Some meaning.Replica) props = refl
 
 -- constructors that break no rule are new, each by itself
-distinct_constructors : (text : List Item) (T : TypeLocals) (own number : ℕ) (G : Globals) (cons : List SCon) →
-    first_broken (constructors_uses text own number G T cons) ≡ None → AreDistinct G.cons → AreDistinct (G.cons ++ constructor_names cons)
-distinct_constructors text T own number G [] fine distinct = subst AreDistinct (sym (append-nil G.cons)) distinct
-distinct_constructors text T own number G (con ∷ cons) fine distinct =
+distinct_constructors : (text : List Item) (T : TypeLocals) (G : Globals) (cons : List SCon) →
+    first_broken (constructors_uses text G T cons) ≡ None → AreDistinct G.cons → AreDistinct (G.cons ++ constructor_names cons)
+distinct_constructors text T G [] fine distinct = subst AreDistinct (sym (append-nil G.cons)) distinct
+distinct_constructors text T G (con ∷ cons) fine distinct =
     let here = constructor_uses text G T con in
-    let others = constructors_uses text own (number + 1) (with_constructor own number G con) T cons in
+    let others = constructors_uses text (with_constructor_name G con) T cons in
     let new : is_name G.cons con.name.text ≡ false =
     rule_kept con.name.at (is_name G.cons con.name.text) (first_broken (types_uses text G T con.fields)) (fine_front here others fine) in
     subst AreDistinct (append_assoc G.cons (con.name.text ∷ []) (constructor_names cons))
-    (distinct_constructors text T own (number + 1) (with_constructor own number G con) cons (fine_back here others fine)
+    (distinct_constructors text T (with_constructor_name G con) cons (fine_back here others fine)
     (distinct_push G.cons con.name.text distinct (not_among G.cons con.name.text new)))
 
 -- The names are lawful, and those of what is declared.
@@ -116,7 +107,7 @@ datatype_stands text G names d fine named stand =
     let own = length G.datatypes in
     let H = with_datatype G d.name in
     let tparams = type_parameters_uses H no_parameters d.tparams in
-    let cons = constructors_uses text own 0 H (data_locals own d.tparams) d.cons in
+    let cons = constructors_uses text H (data_locals own d.tparams) d.cons in
     let new : is_type_name G d.name.text ≡ false = rule_kept d.name.at (is_type_name G d.name.text) (first_broken (tparams ++ cons)) fine in
     let rest : first_broken cons ≡ None = fine_back tparams cons (fine_parts d.name.at (broken_where (is_type_name G d.name.text) Repeated) (first_broken (tparams ++ cons)) fine).1 in
     let flat : flat_map (λ (x : List (List ℕ)). x) (names.cons ++ constructor_names d.cons ∷ []) ≡ G.cons ++ constructor_names d.cons =
@@ -126,9 +117,9 @@ datatype_stands text G names d fine named stand =
     let lawful = stand.lawful in
     let forms = lawful.forms in
     record {
-      types = ap (λ xs. xs ++ d.name.text ∷ []) stand.types ∙ sym (same_types own 0 H d.cons);
-      cons = flat ∙ sym (cons_after own 0 H d.cons);
-      lowers = λ name c. subst (λ xs. Contains xs name) (sym (same_lowers own 0 H d.cons)) (stand.lowers name c);
+      types = ap (λ xs. xs ++ d.name.text ∷ []) stand.types;
+      cons = flat;
+      lowers = stand.lowers;
       lawful = record {
         bool = record {
           datatype = first_stays names.datatypes d.name.text (codes "Bool") lawful.bool.datatype;
@@ -136,7 +127,7 @@ datatype_stands text G names d fine named stand =
         };
         types = distinct_push (type_names names) d.name.text lawful.types
             (not_among (type_names names) d.name.text (ap (λ xs. is_name (codes "Word" ∷ xs) d.name.text) stand.types ∙ new));
-        constructors = subst AreDistinct (sym flat) (distinct_constructors text (data_locals own d.tparams) own 0 H d.cons rest (subst AreDistinct stand.cons lawful.constructors));
+        constructors = subst AreDistinct (sym flat) (distinct_constructors text (data_locals own d.tparams) H d.cons rest (subst AreDistinct stand.cons lawful.constructors));
         lowers = lawful.lowers;
         forms = record {
           datatypes = All-push IsUpper names.datatypes d.name.text forms.datatypes named.name;

@@ -12,7 +12,6 @@ use Rattle.px_terms.specs.declared.raw.RawClaim.{RawClaim}
 use Rattle.px_terms.specs.declared.raw.RawLemma.{RawLemma}
 use Rattle.px_terms.specs.declared.raw.RawReplica.{RawReplica}
 use Rattle.px_terms.specs.declared.raw.RawProgram.{RawProgram}
-use Rattle.px_parser.specs.declared.surface.SCon.{SCon}
 use Rattle.px_parser.specs.declared.surface.SData.{SData}
 use Rattle.px_parser.specs.declared.surface.SDef.{SDef}
 use Rattle.px_parser.specs.declared.surface.SClaim.{SClaim}
@@ -28,9 +27,9 @@ use Rattle.px_scope.specs.declared.globals.Meaning.TheVariants.{Wle, Weq, Defini
 use Rattle.px_scope.specs.declared.globals.Globals.{Globals}
 use Rattle.px_scope.specs.Standing.{meaning_of, built_in}
 use Rattle.px_scope.specs.Uses.{first_broken}
-use Rattle.px_scope.specs.Declaring.{props_of, with_constructor, with_constructors, with_claims_of, after}
+use Rattle.px_scope.specs.Declaring.{props_of, constructor_names, with_claims_of, after}
 use Rattle.px_scope.specs.ItemUses.{data_uses, definition_uses, claim_uses, lemma_uses, replica_uses, item_uses, text_uses}
-use Rattle.px_scope.specs.Programs.{IsData, IsDefinition, IsClaim, IsLemma, IsReplica, constructor_names, start, IsNext, datatype, definition, claim, lemma, replica, AreNext, none, more, IsNumbering}
+use Rattle.px_scope.specs.Programs.{IsData, IsDefinition, IsClaim, IsLemma, IsReplica, start, IsNext, datatype, definition, claim, lemma, replica, AreNext, none, more, IsNumbering}
 use Rattle.px_scope.specs.Small.{HasRoom}
 use Rattle.px_scope.specs.Answers.{Fails, Fine, Resolves, IsUnlessNoMemory}
 use Rattle.px_scope.proofs.OneProgram.{all_next}
@@ -40,14 +39,6 @@ use Rattle.px_scope.proofs.StateSteps.{Reached, reached_next, reached_fails, rea
 pub next_push : {G : Globals} {P Q : RawProgram} {xs : List Item} (x : Item) (R : RawProgram) → AreNext G P xs Q → IsNext (fold after G xs) Q x R → AreNext G P (xs ++ x ∷ []) R
 next_push x R none next = more next none
 next_push x R (more first others) next = more first (next_push x R others next)
-
-pub same_types : (own number : ℕ) (G : Globals) (cons : List SCon) → (with_constructors own number G cons).datatypes ≡ G.datatypes
-same_types own number G [] = refl
-same_types own number G (con ∷ cons) = same_types own (number + 1) (with_constructor own number G con) cons
-
-pub same_claims : (own number : ℕ) (G : Globals) (cons : List SCon) → (with_constructors own number G cons).claimed ≡ G.claimed
-same_claims own number G [] = refl
-same_claims own number G (con ∷ cons) = same_claims own (number + 1) (with_constructor own number G con) cons
 
 pub claims_types : (G : Globals) (meaning : Option Meaning) (props : List Prop) → (with_claims_of G meaning props).datatypes ≡ G.datatypes
 claims_types G None props = refl
@@ -79,14 +70,14 @@ one_more : {A : Type 0} (xs : List A) (x : A) (most : ℕ) → length xs ≤ mos
 one_more xs x most few = omega (arith, length-append xs (x ∷ []))
 
 types_grow : (G : Globals) (item : Item) (most : ℕ) → length G.datatypes ≤ most → length (after G item).datatypes ≤ most + 1
-types_grow G (items.Datatype d) most few = rw (same_types (length G.datatypes) 0 (record G { datatypes = G.datatypes ++ d.name.text ∷ [] }) d.cons) (one_more G.datatypes d.name.text most few)
+types_grow G (items.Datatype d) most few = one_more G.datatypes d.name.text most few
 types_grow G (items.Definition d) most few = omega arith
 types_grow G (items.Claim c) most few = rw (claims_types G (meaning_of G c.name.text) (props_of c.props)) (omega arith)
 types_grow G (items.Lemma l) most few = omega arith
 types_grow G (items.Replica r) most few = omega arith
 
 claims_grow : (G : Globals) (item : Item) (most : ℕ) → length G.claimed ≤ most → length (after G item).claimed ≤ most + 1
-claims_grow G (items.Datatype d) most few = rw (same_claims (length G.datatypes) 0 (record G { datatypes = G.datatypes ++ d.name.text ∷ [] }) d.cons) (omega arith)
+claims_grow G (items.Datatype d) most few = omega arith
 claims_grow G (items.Definition d) most few = one_more G.claimed (props_of d.props) most few
 claims_grow G (items.Claim c) most few = rw (claims_count G (meaning_of G c.name.text) (props_of c.props)) (omega arith)
 claims_grow G (items.Lemma l) most few = omega arith

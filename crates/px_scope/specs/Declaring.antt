@@ -1,6 +1,6 @@
 -- What a declaration adds to what is declared, and what is local in it.
-use Rattle.std.specs.Prelude.{ℕ, ◌+◌, List, [], ◌∷◌, ◌++◌, map, length, Option, Some, None}
-use Rattle.std.specs.List.{slice_set, slice_get, fold}
+use Rattle.std.specs.Prelude.{ℕ, ◌+◌, List, [], ◌∷◌, ◌++◌, map, length, sum_by, Option, Some, None}
+use Rattle.std.specs.List.{slice_set, slice_get, fold, range_with_len}
 use Rattle.std.specs.Option.{unwrap_or}
 use Rattle.px_terms.specs.declared.types.Prop.{Prop}
 use Rattle.px_terms.specs.declared.raw.RawProp.{RawProp}
@@ -27,18 +27,21 @@ texts names = map (λ (n : Name). n.text) names
 abbrev pub props_of : List RawProp → List Prop
 props_of props = map (λ (p : RawProp). p.prop) props
 
+-- the names of constructors
+abbrev pub constructor_names : List SCon → List (List ℕ)
+constructor_names cons = map (λ (con : SCon). con.name.text) cons
+
 -- one more datatype
 abbrev pub with_datatype : Globals → Name → Globals
 with_datatype G name = record G { datatypes = G.datatypes ++ name.text ∷ [] }
 
--- one more constructor, of this datatype and with this number in it
-abbrev pub with_constructor : ℕ → ℕ → Globals → SCon → Globals
-with_constructor datatype number G con = record G { cons = G.cons ++ con.name.text ∷ []; constructors = G.constructors ++ record { datatype = datatype; number = number } ∷ [] }
+-- one more constructor's name
+abbrev pub with_constructor_name : Globals → SCon → Globals
+with_constructor_name G con = record G { cons = G.cons ++ con.name.text ∷ [] }
 
--- the constructors of a datatype, from this number on
-abbrev pub with_constructors : ℕ → ℕ → Globals → List SCon → Globals
-with_constructors datatype number G [] = G
-with_constructors datatype number G (con ∷ cons) = with_constructors datatype (number + 1) (with_constructor datatype number G con) cons
+-- the constructors of this datatype, numbered in their order
+abbrev pub with_constructors : ℕ → Globals → List SCon → Globals
+with_constructors datatype G cons = record G { cons = G.cons ++ constructor_names cons; constructors = G.constructors ++ map (λ (n : ℕ). record { datatype = datatype; number = n }) (range_with_len 0 (length cons)) }
 
 -- one more name with a small letter
 abbrev pub with_lower : Globals → Name → Meaning → Globals
@@ -51,8 +54,7 @@ functions_in (param_kinds.Value s) = 0
 
 -- how many parameters are functions
 abbrev pub function_count : List SParam → ℕ
-function_count [] = 0
-function_count (p ∷ ps) = functions_in p.kind + function_count ps
+function_count params = sum_by (λ (p : SParam). functions_in p.kind) params
 
 -- one more definition, with no properties yet
 abbrev pub with_definition : Globals → SDef → Globals
@@ -73,7 +75,7 @@ with_claims_of G _ props = G
 
 -- what is declared after a declaration
 abbrev pub after : Globals → Item → Globals
-after G (items.Datatype d) = with_constructors (length G.datatypes) 0 (with_datatype G d.name) d.cons
+after G (items.Datatype d) = with_constructors (length G.datatypes) (with_datatype G d.name) d.cons
 after G (items.Definition d) = with_claimed (with_definition G d) (props_of d.props)
 after G (items.Claim c) = with_claims_of G (meaning_of G c.name.text) (props_of c.props)
 after G (items.Lemma l) = with_lower G l.name Lemma

@@ -1,5 +1,5 @@
 -- The names that stand in declarations, in the order of the text, each with the first rule that it breaks at its place.
-use Rattle.std.specs.Prelude.{ℕ, ◌+◌, List, [], ◌∷◌, ◌++◌, length, Option, Some}
+use Rattle.std.specs.Prelude.{List, [], ◌∷◌, ◌++◌, length, Option, Some}
 use Rattle.std.specs.List.{flat_map}
 use Rattle.px_terms.specs.declared.types.Prop.{Prop}
 use Rattle.px_parser.specs.declared.surface.Name.{Name}
@@ -25,7 +25,7 @@ use Rattle.px_scope.specs.declared.locals.Locals.{Locals}
 use Rattle.px_scope.specs.Standing.{meaning_of, no_parameters, nothing_local, built_in}
 use Rattle.px_scope.specs.Rules.{new_type_fault, new_parameter_fault, new_constructor_fault, new_lower_fault, new_value_fault, new_function_fault, claim_fault, merge_fault}
 use Rattle.px_scope.specs.Uses.{Use, use_of, along, type_uses, types_uses, Data, From, expr_uses, properties_uses, function_uses}
-use Rattle.px_scope.specs.Declaring.{with_datatype, with_constructor, with_lower, with_definition, claimed_of, after, with_type_parameter, with_parameter, type_locals, data_locals, first_locals, parameter_locals, body_locals}
+use Rattle.px_scope.specs.Declaring.{with_datatype, with_constructor_name, with_lower, with_definition, claimed_of, after, with_type_parameter, with_parameter, type_locals, data_locals, first_locals, parameter_locals, body_locals}
 
 -- the names of type parameters
 abbrev pub type_parameters_uses : Globals → TypeLocals → List Name → List Use
@@ -35,14 +35,13 @@ type_parameters_uses G T tparams = along with_type_parameter (λ (U : TypeLocals
 abbrev pub constructor_uses : List Item → Globals → TypeLocals → SCon → List Use
 constructor_uses text G T con = use_of con.name (new_constructor_fault G con.name.text) ∷ types_uses text G T con.fields
 
--- the names in constructors, the first of which has this number in its datatype
-abbrev pub constructors_uses : List Item → ℕ → ℕ → Globals → TypeLocals → List SCon → List Use
-constructors_uses text datatype number G T [] = []
-constructors_uses text datatype number G T (con ∷ cons) = constructor_uses text G T con ++ constructors_uses text datatype (number + 1) (with_constructor datatype number G con) T cons
+-- the names in constructors
+abbrev pub constructors_uses : List Item → Globals → TypeLocals → List SCon → List Use
+constructors_uses text G T cons = along with_constructor_name (λ (H : Globals) (con : SCon). constructor_uses text H T con) G cons
 
 -- the names in a datatype
 abbrev pub data_uses : List Item → Globals → SData → List Use
-data_uses text G d = use_of d.name (new_type_fault G d.name.text) ∷ (type_parameters_uses (with_datatype G d.name) no_parameters d.tparams ++ constructors_uses text (length G.datatypes) 0 (with_datatype G d.name) (data_locals (length G.datatypes) d.tparams) d.cons)
+data_uses text G d = use_of d.name (new_type_fault G d.name.text) ∷ (type_parameters_uses (with_datatype G d.name) no_parameters d.tparams ++ constructors_uses text (with_datatype G d.name) (data_locals (length G.datatypes) d.tparams) d.cons)
 
 -- the names in a function type
 abbrev pub fn_type_uses : List Item → Globals → TypeLocals → SFnType → List Use

@@ -1,5 +1,5 @@
 -- Declarations with numbers for names, and the numbered program of a text.
-use Rattle.std.specs.Prelude.{◌≡◌, ℕ, List, [], ◌∷◌, ◌++◌, map, length, codes, Some, None}
+use Rattle.std.specs.Prelude.{◌≡◌, ℕ, List, [], ◌∷◌, ◌++◌, length, codes, Some, None}
 use Rattle.px_terms.specs.declared.raw.Decl.TheVariants as decl
 use Rattle.px_terms.specs.declared.raw.RawTy.{RawTy}
 use Rattle.px_terms.specs.declared.raw.RawFun.{RawFun}
@@ -34,7 +34,7 @@ use Rattle.px_scope.specs.declared.locals.Locals.{Locals}
 use Rattle.px_scope.specs.Standing.{meaning_of, no_parameters, nothing_local, built_in}
 use Rattle.px_scope.specs.Numbers.{IsType, AreTypes, IsTerm, IsFunction, AreFunctions}
 use Rattle.px_scope.specs.Uses.{Broken, first_broken}
-use Rattle.px_scope.specs.Declaring.{with_datatype, with_lower, with_definition, after, type_locals, data_locals, parameter_locals, body_locals}
+use Rattle.px_scope.specs.Declaring.{constructor_names, with_datatype, with_lower, with_definition, after, type_locals, data_locals, parameter_locals, body_locals}
 use Rattle.px_scope.specs.ItemUses.{text_uses}
 
 -- each constructor is the one at its place
@@ -114,10 +114,6 @@ pub record IsReplica (G : Globals) (r : SReplica) (result : RawReplica) : Type 0
   pub is_merge : IsFunction (with_lower G r.name meaning.Replica) nothing_local r.merge merge
   pub are_functions : AreFunctions (with_lower G r.name meaning.Replica) nothing_local r.funs funs
   pub is : result ≡ record { at = r.name.at; state = state; from = from; merge = merge; funs = funs }
-
--- the names of constructors
-abbrev pub constructor_names : List SCon → List (List ℕ)
-constructor_names cons = map (λ (con : SCon). con.name.text) cons
 
 -- One declaration more: it stands in the list of its kind, and in the order of the text.
 pub data IsNext (G : Globals) (P : RawProgram) : Item → RawProgram → Type 0 where

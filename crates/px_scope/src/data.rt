@@ -64,7 +64,7 @@ fn resolve_constructors(
     cons: &[SCon],
 ) -> Result<Items<RawCon>, ScopeEnd>
     requires { length cons.now < 2 ^ 32 }
-    ensures { Resolves (constructors_uses text.now datatype 0 globals.old types.now cons.now) (λ raws. AreConstructors globals.old types.now cons.now raws × (globals.new ≡ with_constructors datatype 0 globals.old cons.now)) result }
+    ensures { Resolves (constructors_uses text.now globals.old types.now cons.now) (λ raws. AreConstructors globals.old types.now cons.now raws × (globals.new ≡ with_constructors datatype globals.old cons.now)) result }
 {
     let mut raws = Items::new(alloc);
     for (number, con) in cons.iter().enumerate() {

@@ -1,5 +1,5 @@
 use Rattle.std.proofs.Common.{ap, ◌∙◌}
-use Rattle.px_scope.specs.Programs.{constructor_names}
+use Rattle.px_scope.specs.Declaring.{constructor_names}
 use Rattle.px_scope.proofs.ProgramSteps.{datatype_next}
 use Rattle.px_scope.proofs.programs.add_datatype.Goals as goal
 
