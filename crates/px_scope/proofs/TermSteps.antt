@@ -74,7 +74,7 @@ arms_are f L (x ∷ xs) = ap (λ us. f x L ++ us) (arms_are f L xs)
 
 module _ (text : List Item) (G : Globals) where
   -- what is seen of a kind whose parts are not folded
-  abbrev layer_uses : SExprKind-F SExprKind SArm SExpr → ℕ → Seen
+  abbrev pub layer_uses : SExprKind-F SExprKind SArm SExpr → ℕ → Seen
   layer_uses (SExprKind-F.Number w) at role L = literal_uses at role
   layer_uses (SExprKind-F.Upper name types fields) at role L = construction_uses text G name types (map (expr_uses text G) fields) role L
   layer_uses (SExprKind-F.Lower name types None) at role L = lower_uses text G name types None role L
@@ -91,7 +91,7 @@ module _ (text : List Item) (G : Globals) where
   layer_is (SExprKind-F.Lower name types (Some args)) at role L = refl
   layer_is (SExprKind-F.Match on arms) at role L = refl
 
-  expr_uses_is : (e : SExpr) (role : Role) (L : Locals) → expr_uses text G e role L ≡ layer_uses (out-SExprKind e.kind) e.at role L
+  pub expr_uses_is : (e : SExpr) (role : Role) (L : Locals) → expr_uses text G e role L ≡ layer_uses (out-SExprKind e.kind) e.at role L
   unfolding expr_uses arm_uses
   expr_uses_is e role L =
       ap (λ (s : Seen). s role L) (fold_out-SExpr (ℕ → Seen) (Locals → List Use) Seen (kind_uses_step text G) (arm_uses_step text G) expr_uses_step e)

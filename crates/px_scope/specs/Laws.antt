@@ -1,8 +1,13 @@
 -- What the definitions say of every surface.
-use Rattle.std.specs.Prelude.{◌≡◌}
+use Rattle.std.specs.Prelude.{◌≡◌, ℕ, ◌<◌, ◌≤◌, List, Some, Contains, AllPairs}
 use Rattle.px_terms.specs.declared.raw.RawProgram.{RawProgram}
+use Rattle.px_lexer.specs.declared.token.Token.{Token}
+use Rattle.px_lexer.specs.Tokens.{AreTokens}
 use Rattle.px_parser.specs.declared.surface.Surface.{Surface}
-use Rattle.px_scope.specs.Uses.{Broken}
+use Rattle.px_parser.specs.Faults.{IsProgramOf}
+use Rattle.px_scope.specs.declared.ends.ScopeKind.{ScopeKind}
+use Rattle.px_scope.specs.Uses.{Use, Broken}
+use Rattle.px_scope.specs.ItemUses.{text_uses}
 use Rattle.px_scope.specs.Programs.{IsNumbering, IsFault}
 
 -- a surface has at most one numbered program
@@ -16,3 +21,11 @@ OneFault = (surface : Surface) (one other : Broken) → IsFault surface one → 
 -- no surface has both
 abbrev pub NeverBoth : Type 0
 NeverBoth = (surface : Surface) (P : RawProgram) (fault : Broken) → IsNumbering surface P → IsFault surface fault → ⊥
+
+-- the names of a text's program stand one after the other, each before all later ones
+abbrev pub NamesRise : Type 0
+NamesRise = (text : List ℕ) (tokens : List Token) (surface : Surface) → AreTokens text tokens → IsProgramOf text tokens surface → AllPairs (λ (u v : Use). u.at < v.at) (text_uses surface.items)
+
+-- the fault of a text's program is at the first byte at which a name breaks a rule
+abbrev pub FaultIsFirst : Type 0
+FaultIsFirst = (text : List ℕ) (tokens : List Token) (surface : Surface) (fault : Broken) → AreTokens text tokens → IsProgramOf text tokens surface → IsFault surface fault → (u : Use) (kind : ScopeKind) → Contains (text_uses surface.items) u → u.fault ≡ Some kind → fault.at ≤ u.at

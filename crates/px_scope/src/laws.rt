@@ -1,4 +1,4 @@
-ghost use Rattle.px_scope.specs.Laws.{OneNumbering, OneFault, NeverBoth};
+ghost use Rattle.px_scope.specs.Laws.{OneNumbering, OneFault, NeverBoth, NamesRise, FaultIsFirst};
 
 /// A surface has at most one numbered program.
 pub fn one_numbering()
@@ -13,4 +13,14 @@ pub fn one_fault()
 /// No surface has both.
 pub fn never_both()
     ensures { NeverBoth }
+{}
+
+/// The names of a text's program stand one after the other: the order in which they are looked at is that of the bytes.
+pub fn names_rise()
+    ensures { NamesRise }
+{}
+
+/// A fault of scope is at the first byte of the text at which a name breaks a rule.
+pub fn fault_is_first()
+    ensures { FaultIsFirst }
 {}
