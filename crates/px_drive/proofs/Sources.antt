@@ -1,8 +1,8 @@
 -- Each layer of a text is one, so the text is one program, or has one fault.
 use Rattle.std.proofs.Common.{◌≡◌, ℕ, List, ◌⊎◌, inl, inr, Result, Ok, Err, refl, ap, subst}
 use Rattle.px_terms.specs.declared.program.Program.{Program}
-use Rattle.px_terms.specs.declared.raw.RawProgram.{RawProgram}
-use Rattle.px_terms.specs.Laws.{DerivationsAreSound}
+use Rattle.px_terms.specs.RawProgram.{RawProgram}
+use Rattle.px_soundness.specs.Laws.{DerivationsAreSound}
 use Rattle.px_lexer.specs.declared.token.Token.{Token}
 use Rattle.px_lexer.specs.Tokens.{AreTokens}
 use Rattle.px_lexer.specs.Laws as lexer

@@ -1,7 +1,7 @@
 -- Which program a text is, and why it is none: its tokens, their tree, the tree's numbered program, and its thin one.
 use Rattle.std.specs.Prelude.{ℕ, List, ⊤, Result, Ok, Err}
 use Rattle.px_terms.specs.declared.program.Program.{Program}
-use Rattle.px_terms.specs.declared.raw.RawProgram.{RawProgram}
+use Rattle.px_terms.specs.RawProgram.{RawProgram}
 use Rattle.px_lexer.specs.declared.token.Token.{Token}
 use Rattle.px_lexer.specs.Tokens.{AreTokens}
 use Rattle.px_lexer.specs.Tokens as lexer

@@ -6,7 +6,7 @@ ghost use Rattle.px_drive.specs.Laws.{OneSource, OneSourceFault, NeverBoth, Acce
 use px_lexer::one_list;
 use px_parser::one_tree;
 use px_scope::one_numbering;
-use px_terms::derivations_are_sound;
+use px_soundness::derivations_are_sound;
 use px_thin::{one_thin_program, thin_is_plain};
 
 /// A text is at most one program.

@@ -1,6 +1,6 @@
 ghost use Rattle.std.specs.Prelude.{◌≡◌, ◌≤◌, length, IfOk, IsTrue};
 ghost use Rattle.px_terms.specs.Numbered.{HasNumbers};
-ghost use Rattle.px_terms.specs.declared.limits.TheConstants.{PROGRAM_BYTES as PROGRAM_LIMIT};
+ghost use Rattle.px_terms.specs.limits.TheConstants.{PROGRAM_BYTES as PROGRAM_LIMIT};
 ghost use Rattle.px_drive.specs.Ends.{limit_of, ReadsText, Accepts};
 ghost use Rattle.px_drive.specs.Sources.{Sources};
 

@@ -4,7 +4,7 @@ use Rattle.std.proofs.lemmas.List.{take_more}
 use Rattle.std.specs.Option.{option_map}
 use Rattle.px_terms.specs.declared.types.Ty.{Ty}
 use Rattle.px_terms.specs.declared.types.Fun.{Fun}
-use Rattle.px_terms.specs.declared.types.Head.TheVariants.{Def}
+use Rattle.px_terms.specs.Head.TheVariants.{Def}
 use Rattle.px_terms.specs.declared.term.Term.{Term, out-Term}
 use Rattle.px_terms.specs.declared.term.Term.TheVariants.{Free, Lit, Con, Call, Match, outs-Free, outs-Lit, outs-Con, outs-Call, outs-Match}
 use Rattle.px_terms.specs.declared.term.Term.TheOpen.{Term-F}

@@ -1,7 +1,7 @@
 //! The rules of evaluation: one function each. `fuel` goes down wherever the value of a term is begun.
 
 ghost use Rattle.std.specs.Prelude.{[], IfOk, IfSome};
-ghost use Rattle.px_terms.specs.declared.types.Head.TheVariants.{Def};
+ghost use Rattle.px_terms.specs.Head.TheVariants.{Def};
 ghost use Rattle.px_terms.specs.Meaning.{Gives, MeanAll, Means};
 
 use crate::values::{AllEvaluated, Evaluated, arm_of, variable, with_calls};

@@ -5,8 +5,8 @@ use Rattle.std.specs.List.{list_all}
 use Rattle.std.specs.Str.{bytes_eq}
 use Rattle.std.proofs.lemmas.List.Elements.{All-contains}
 use Rattle.std.proofs.lemmas.Slice.Eq.{bytes_eq-Decides}
-use Rattle.px_terms.specs.declared.types.Prop.{Prop}
-use Rattle.px_terms.specs.declared.types.Prop.TheVariants as props
+use Rattle.px_base.specs.declared.prop.Prop.{Prop}
+use Rattle.px_base.specs.declared.prop.Prop.TheVariants as props
 use Rattle.px_lexer.specs.Forms.{words, marks}
 use Rattle.px_lexer.specs.Laws.{HasOneText, OneSpelling}
 use Rattle.px_lexer.specs.declared.token.Key.{Key}

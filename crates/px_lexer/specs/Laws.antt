@@ -1,8 +1,8 @@
 -- What the definitions say of every text, and of the tables.
 use Rattle.std.specs.Prelude.{◌≡◌, ℕ, List, [], ◌∷◌, Contains, codes}
 use Rattle.std.specs.Char.{is_ascii_lowercase}
-use Rattle.px_terms.specs.declared.types.Prop.{Prop}
-use Rattle.px_terms.specs.declared.types.Prop.TheVariants as prop
+use Rattle.px_base.specs.declared.prop.Prop.{Prop}
+use Rattle.px_base.specs.declared.prop.Prop.TheVariants as prop
 use Rattle.px_lexer.specs.Forms.{IsName, words, marks}
 use Rattle.px_lexer.specs.Tokens.{AreTokens, IsFault}
 use Rattle.px_lexer.specs.declared.token.Key.{Key}

@@ -9,7 +9,7 @@ ghost use Rattle.px_lexer.specs.declared.token.Token.{Token};
 use crate::runs::{Class, number_of, run_end};
 use crate::table::{mark_of, word_kind};
 use crate::token::{Token, TokenKind};
-use px_terms::limits::PROGRAM_BYTES;
+use px_base::limits::PROGRAM_BYTES;
 use sqlite_items::Items;
 use std::alloc::{AllocError, Global};
 

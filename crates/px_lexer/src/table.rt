@@ -4,7 +4,7 @@ ghost use Rattle.px_lexer.specs.Scan.{IsLongestRow, IsWordKind, NoRowBegins, lon
 ghost use Rattle.px_lexer.specs.declared.token.TokenKind.{TokenKind};
 
 use crate::token::{Key, Mark, TokenKind};
-use px_terms::Prop;
+use px_base::Prop;
 
 /// The reserved words, each with its kind.
 pub const WORDS: [(&[u8], TokenKind); 21] = [

@@ -1,7 +1,7 @@
 ghost use Rattle.std.specs.Prelude.{◌≤◌, length};
 
 use crate::{LexEnd, tokens};
-use px_terms::limits::PROGRAM_BYTES;
+use px_base::limits::PROGRAM_BYTES;
 use std::alloc::{AllocError, Global};
 use std::process::Abort;
 use std::test::Fail;

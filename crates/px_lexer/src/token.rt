@@ -1,4 +1,4 @@
-use px_terms::Prop;
+use px_base::Prop;
 
 /// A reserved word that is no property.
 #[derive(Clone, Copy, Debug, PartialEq, Eq)]

@@ -1,6 +1,6 @@
 -- Declarations and programs are read.
 use Rattle.std.proofs.Common.{◌≡◌, ◌<◌, length, true, false, List, [], ◌∷◌, ◌++◌, refl, length-append, arith}
-use Rattle.px_terms.specs.declared.limits.TheConstants.{NESTING}
+use Rattle.px_base.specs.declared.limits.TheConstants.{NESTING}
 use Rattle.px_lexer.specs.declared.token.Key.{Key}
 use Rattle.px_lexer.specs.declared.token.Key.TheVariants.{KData, KDef, KClaim, KLemma, KReplica, KFrom, KBy}
 use Rattle.px_lexer.specs.declared.token.Mark.TheVariants.{BraceL, BraceR, ParenL, ParenR, Less, Greater, Comma, Colon, Equal, FatArrow}

@@ -1,6 +1,6 @@
 -- Properties and parameters are read.
 use Rattle.std.proofs.Common.{◌≡◌, ℕ, suc, Bool, true, false, not, List, [], ◌∷◌, ◌++◌, refl, sym, ap, subst, ◌⊎◌, inl, inr}
-use Rattle.px_terms.specs.declared.raw.RawProp.{RawProp}
+use Rattle.px_base.specs.declared.raw.RawProp.{RawProp}
 use Rattle.px_lexer.specs.declared.token.Key.TheVariants.{KFn, KWith}
 use Rattle.px_lexer.specs.declared.token.Mark.TheVariants.{ParenL, ParenR, Less, Comma, Colon, Arrow}
 use Rattle.px_lexer.specs.declared.token.TokenKind.{TokenKind}

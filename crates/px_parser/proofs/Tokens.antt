@@ -1,7 +1,7 @@
 -- One-word readers read their words.
 use Rattle.std.proofs.Common.{◌≡◌, ℕ, ◌==◌, Bool, true, false, cond, List, [], ◌∷◌, Some, None, refl, sym, ap, ◌∙◌, eq-eqb, eqb-true}
-use Rattle.px_terms.specs.declared.types.Prop.TheVariants.{Comm}
-use Rattle.px_terms.specs.declared.raw.RawProp.{RawProp}
+use Rattle.px_base.specs.declared.prop.Prop.TheVariants.{Comm}
+use Rattle.px_base.specs.declared.raw.RawProp.{RawProp}
 use Rattle.px_lexer.specs.declared.token.Key.{Key}
 use Rattle.px_lexer.specs.declared.token.Key.TheVariants.{KData, KDef, KClaim, KLemma, KReplica, KFrom, KBy, KMatch, KFn, KWith}
 use Rattle.px_lexer.specs.declared.token.Mark.{Mark}

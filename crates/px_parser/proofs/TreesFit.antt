@@ -1,6 +1,6 @@
 -- The tree of some tokens has at most as many parts as they are: each production of the grammar, joined as it is there.
 use Rattle.std.proofs.Common.{ℕ, zero, suc, ◌-◌, List, [], length, Some, None, arith}
-use Rattle.px_terms.specs.declared.limits.TheConstants.{NESTING}
+use Rattle.px_base.specs.declared.limits.TheConstants.{NESTING}
 use Rattle.px_lexer.specs.declared.token.Mark.TheVariants.{BraceL, BraceR, ParenL, ParenR, Less, Greater, Comma, FatArrow}
 use Rattle.px_parser.specs.Words.{Word}
 use Rattle.px_parser.specs.Phrases.{IsDone, IsSequence, IsWord, IsLower, IsUpper, IsProperty, IsNumber, list, between, optional}

@@ -2,7 +2,7 @@
 -- it is there.
 use Rattle.std.proofs.Common.{ℕ, zero, suc, ◌-◌, ◌≤◌, List, [], Option, Some, None, All, arith}
 use Rattle.std.proofs.lemmas.List.Elements.{All-nil}
-use Rattle.px_terms.specs.declared.limits.TheConstants.{NESTING}
+use Rattle.px_base.specs.declared.limits.TheConstants.{NESTING}
 use Rattle.px_lexer.specs.declared.token.Mark.TheVariants.{BraceL, BraceR, ParenL, ParenR, Less, Greater, Comma, FatArrow}
 use Rattle.px_parser.specs.Words.{Word}
 use Rattle.px_parser.specs.Phrases.{IsDone, IsSequence, IsWord, IsNumber, list, between, optional}

@@ -1,7 +1,7 @@
 -- The grammar: each production, and the tree that its words are written for.
 use Rattle.std.specs.Prelude.{ℕ, zero, suc, ◌-◌, List, [], Some, None}
-use Rattle.px_terms.specs.declared.limits.TheConstants.{NESTING}
-use Rattle.px_terms.specs.declared.raw.RawProp.{RawProp}
+use Rattle.px_base.specs.declared.limits.TheConstants.{NESTING}
+use Rattle.px_base.specs.declared.raw.RawProp.{RawProp}
 use Rattle.px_lexer.specs.declared.token.Key.TheVariants.{KData, KDef, KClaim, KLemma, KReplica, KFrom, KBy, KMatch, KFn, KWith}
 use Rattle.px_lexer.specs.declared.token.Mark.TheVariants.{BraceL, BraceR, ParenL, ParenR, Less, Greater, Comma, Colon, Equal, Arrow, FatArrow}
 use Rattle.px_parser.specs.Phrases.{Phrase, done, impossible, optional, Either, Each, ◌>>=◌, list, between, mark, key, lower, upper, property, number}

@@ -1,6 +1,6 @@
 -- Ways to join phrases. A phrase says which lists of words are written for which value.
 use Rattle.std.specs.Prelude.{◌≡◌, ℕ, List, [], ◌∷◌, ◌++◌}
-use Rattle.px_terms.specs.declared.raw.RawProp.{RawProp}
+use Rattle.px_base.specs.declared.raw.RawProp.{RawProp}
 use Rattle.px_lexer.specs.declared.token.Key.{Key}
 use Rattle.px_lexer.specs.declared.token.Mark.{Mark}
 use Rattle.px_lexer.specs.declared.token.TokenKind.TheVariants as kinds

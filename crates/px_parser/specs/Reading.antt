@@ -1,7 +1,7 @@
 -- A reader for each production. None of these says what a program is: each is proved to read its phrase of the grammar.
 use Rattle.std.specs.Prelude.{ℕ, zero, suc, ◌-◌, ◌==◌, Bool, true, false, cond, ◌&&◌, List, [], ◌∷◌, Option, Some, None}
-use Rattle.px_terms.specs.declared.limits.TheConstants.{NESTING}
-use Rattle.px_terms.specs.declared.raw.RawProp.{RawProp}
+use Rattle.px_base.specs.declared.limits.TheConstants.{NESTING}
+use Rattle.px_base.specs.declared.raw.RawProp.{RawProp}
 use Rattle.px_lexer.specs.declared.token.Key.{Key}
 use Rattle.px_lexer.specs.declared.token.Key.TheVariants.{KData, KDef, KClaim, KLemma, KReplica, KFrom, KBy, KMatch, KFn, KWith}
 use Rattle.px_lexer.specs.declared.token.Mark.{Mark}

@@ -1,8 +1,8 @@
 -- How many parts a program's tree has, and how deep its types and expressions nest. Each part has a token of its own: a
 -- name, a number, a property's word, `match` or `fn`. So a tree has no more parts than its text has tokens.
 use Rattle.std.specs.Prelude.{ℕ, ◌+◌, ◌≤◌, max, List, map, sum, length, Option, Some, None, All}
-use Rattle.px_terms.specs.declared.limits.TheConstants.{NESTING}
-use Rattle.px_terms.specs.Types.{largest}
+use Rattle.px_base.specs.declared.limits.TheConstants.{NESTING}
+use Rattle.px_base.specs.Largest.{largest}
 use Rattle.px_parser.specs.declared.surface.SType.{SType}
 use Rattle.px_parser.specs.declared.surface.SType.TheOpen.{SType-F}
 use Rattle.px_parser.specs.declared.surface.SType.TheFolds.{fold-SType}

@@ -11,7 +11,7 @@ use crate::rest::Rest;
 use crate::surface::{Item, SClaim, SCon, SData, SDef, SEquation, SFun, SLemma, SReplica, SType};
 use crate::types::{read_type, read_type_arguments, read_types};
 use px_lexer::{Key, Mark};
-use px_terms::limits::NESTING;
+use px_base::limits::NESTING;
 use sqlite_items::Items;
 use std::alloc::Global;
 

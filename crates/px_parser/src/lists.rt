@@ -6,7 +6,7 @@ use crate::read_end::ReadEnd;
 use crate::rest::Rest;
 use crate::surface::Name;
 use px_lexer::{Key, Mark};
-use px_terms::RawProp;
+use px_base::RawProp;
 use sqlite_items::Items;
 use std::alloc::Global;
 

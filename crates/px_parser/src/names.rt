@@ -6,7 +6,7 @@ ghost use Rattle.px_parser.specs.Readable.{is_readable};
 use crate::read_end::ReadEnd;
 use crate::surface::Name;
 use px_lexer::Token;
-use px_terms::Text;
+use px_base::Text;
 use std::alloc::Global;
 use std::str;
 

@@ -13,7 +13,7 @@ use crate::read_end::ReadEnd;
 use crate::rest::Rest;
 use crate::surface::Surface;
 use px_lexer::Token;
-use px_terms::limits::PROGRAM_BYTES;
+use px_base::limits::PROGRAM_BYTES;
 use std::alloc::Global;
 
 /// The tree of the text's tokens, unless memory runs out. A fault where the tokens are no program: at the first token

@@ -7,7 +7,7 @@ use crate::names::name_of;
 use crate::read_end::ReadEnd;
 use crate::surface::{Name, SExpr, SExprKind};
 use px_lexer::{Key, Mark, Token, TokenKind};
-use px_terms::RawProp;
+use px_base::RawProp;
 use std::alloc::Global;
 
 /// The tokens that are left of a text.

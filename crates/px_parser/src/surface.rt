@@ -1,7 +1,7 @@
 //! The tree of a program's text. `at` is a part's first byte; a part without it begins with its first field.
 //! A list that is left out in the text is the empty list: only `args` of `Lower` tells empty parentheses from none.
 
-use px_terms::{RawProp, Text};
+use px_base::{RawProp, Text};
 use sqlite_items::{Boxed, Items};
 
 /// A name that stands in the text.

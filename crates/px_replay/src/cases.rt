@@ -5,7 +5,7 @@ ghost use Rattle.px_terms.specs.declared.types.Ty.{Ty};
 ghost use Rattle.px_terms.specs.declared.term.Term.TheVariants as terms;
 ghost use Rattle.px_terms.specs.declared.sequent.Sequent.{Sequent};
 ghost use Rattle.px_terms.specs.declared.row.Row.TheVariants.{CaseVar};
-ghost use Rattle.px_terms.specs.declared.limits.TheConstants.{VARIABLES};
+ghost use Rattle.px_terms.specs.limits.TheConstants.{VARIABLES};
 ghost use Rattle.px_terms.specs.Types.{tys_instance};
 ghost use Rattle.px_terms.specs.Typing.{live};
 ghost use Rattle.px_terms.specs.Clauses.{numbers_from};

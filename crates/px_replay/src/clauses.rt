@@ -2,7 +2,7 @@
 
 ghost use Rattle.std.specs.Prelude.{◌≡◌, ◌+◌, ◌^◌, ◌<◌, ◌++◌, ◌∷◌, [], ℕ, List, IsTrue, ◌↔◌, IfOk, IsOkUnless, length, map};
 ghost use Rattle.px_terms.specs.declared.types.Ty.TheVariants as tys;
-ghost use Rattle.px_terms.specs.declared.types.Head.TheVariants as heads;
+ghost use Rattle.px_terms.specs.Head.TheVariants as heads;
 ghost use Rattle.px_terms.specs.declared.term.Term.TheVariants as terms;
 ghost use Rattle.px_terms.specs.declared.clause.Clause.{Clause};
 ghost use Rattle.px_terms.specs.Clauses as definitions;

@@ -14,9 +14,8 @@ use crate::clauses::{clause_of, open_obligation};
 use crate::lines::{RowEnd, read_row};
 use crate::opened::Open;
 use crate::rows::open_sequent;
-use px_terms::{
-    Declared, NoMemory, Program, Row, derivations_are_sound, one_opening, stack_is_tree,
-};
+use px_soundness::{derivations_are_sound, one_opening, stack_is_tree};
+use px_terms::{Declared, NoMemory, Program, Row};
 use sqlite_items::Items;
 use std::alloc::{AllocError, Global};
 

@@ -3,7 +3,7 @@
 ghost use Rattle.std.specs.Prelude.{◌≡◌, ◌≤◌, IfOk, IsOkUnless, List};
 ghost use Rattle.px_terms.specs.declared.term.Term.{Term, out-Term};
 ghost use Rattle.px_terms.specs.declared.clause.Equation.{Equation};
-ghost use Rattle.px_terms.specs.declared.limits.TheConstants.{SEQUENT_NODES};
+ghost use Rattle.px_terms.specs.limits.TheConstants.{SEQUENT_NODES};
 ghost use Rattle.px_terms.specs.Terms.{term_size};
 ghost use Rattle.px_terms.specs.Steps.{Turns, Step};
 

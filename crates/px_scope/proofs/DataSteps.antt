@@ -5,9 +5,9 @@ use Rattle.std.specs.List.{fold, range_with_len}
 use Rattle.std.specs.Result.{IsErrAnd}
 use Rattle.std.proofs.lemmas.List.{take_more, take_all, length-take-le, map_push}
 use Rattle.std.proofs.lemmas.List.FromFn.{map-range_with_len_more}
-use Rattle.px_terms.specs.declared.raw.RawTy.{RawTy}
-use Rattle.px_terms.specs.declared.raw.RawCon.{RawCon}
-use Rattle.px_terms.specs.declared.raw.RawData.{RawData}
+use Rattle.px_base.specs.declared.raw.RawTy.{RawTy}
+use Rattle.px_base.specs.declared.raw.RawCon.{RawCon}
+use Rattle.px_base.specs.declared.raw.RawData.{RawData}
 use Rattle.px_parser.specs.declared.surface.Item.{Item}
 use Rattle.px_parser.specs.declared.surface.Name.{Name}
 use Rattle.px_parser.specs.declared.surface.SType.{SType, out-SType}

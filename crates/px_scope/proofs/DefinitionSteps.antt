@@ -2,10 +2,10 @@
 use Rattle.std.proofs.Common.{◌≡◌, ℕ, List, [], ◌∷◌, ◌++◌, length, Some, None, Result, refl, sym, ap, ◌∙◌, subst}
 use Rattle.std.specs.List.{fold}
 use Rattle.std.specs.Result.{IsErrAnd}
-use Rattle.px_terms.specs.declared.types.Prop.{Prop}
-use Rattle.px_terms.specs.declared.raw.RawTy.{RawTy}
-use Rattle.px_terms.specs.declared.raw.RawProp.{RawProp}
-use Rattle.px_terms.specs.declared.raw.RawTerm.{RawTerm}
+use Rattle.px_base.specs.declared.prop.Prop.{Prop}
+use Rattle.px_base.specs.declared.raw.RawTy.{RawTy}
+use Rattle.px_base.specs.declared.raw.RawProp.{RawProp}
+use Rattle.px_base.specs.declared.raw.RawTerm.{RawTerm}
 use Rattle.px_parser.specs.declared.surface.Name.{Name}
 use Rattle.px_parser.specs.declared.surface.SParam.{SParam}
 use Rattle.px_parser.specs.declared.surface.SParamKind.{SParamKind}

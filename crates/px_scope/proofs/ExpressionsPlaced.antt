@@ -2,7 +2,7 @@
 use Rattle.std.proofs.Common.{◌≡◌, ℕ, zero, suc, ◌≤◌, true, false, List, [], ◌∷◌, ◌++◌, map, take, drop, Option, Some, None, refl, sym, ap, ◌∙◌, subst, append_assoc, arith}
 use Rattle.std.specs.List.{flat_map}
 use Rattle.std.proofs.lemmas.List.{map-append, append-nil}
-use Rattle.px_terms.specs.Types.{largest}
+use Rattle.px_base.specs.Largest.{largest}
 use Rattle.px_parser.specs.declared.surface.Name.{Name}
 use Rattle.px_parser.specs.declared.surface.SType.{SType, out-SType}
 use Rattle.px_parser.specs.declared.surface.SExpr.{SExpr}

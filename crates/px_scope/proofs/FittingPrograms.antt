@@ -6,14 +6,14 @@ use Rattle.std.proofs.lemmas.List.{length-map}
 use Rattle.std.proofs.lemmas.List.FromFn.{length-map-range_with_len, get_or-map-range_with_len}
 use Rattle.std.proofs.lemmas.List.Sums.{sum-map, sum_by_push}
 use Rattle.std.proofs.lemmas.List.Elements.{All-nil, All-cons, All-head, All-tail, All-append, All-weaker, All-push}
-use Rattle.px_terms.specs.declared.limits.TheConstants.{PROGRAM_BYTES}
-use Rattle.px_terms.specs.declared.types.Prop.{Prop}
-use Rattle.px_terms.specs.declared.raw.Decl.{Decl}
-use Rattle.px_terms.specs.declared.raw.Decl.TheVariants as decl
-use Rattle.px_terms.specs.declared.raw.RawData.{RawData}
-use Rattle.px_terms.specs.declared.raw.RawDef.{RawDef}
-use Rattle.px_terms.specs.declared.raw.RawClaim.{RawClaim}
-use Rattle.px_terms.specs.declared.raw.RawProgram.{RawProgram}
+use Rattle.px_base.specs.declared.limits.TheConstants.{PROGRAM_BYTES}
+use Rattle.px_base.specs.declared.prop.Prop.{Prop}
+use Rattle.px_base.specs.declared.raw.Decl.{Decl}
+use Rattle.px_base.specs.declared.raw.Decl.TheVariants as decl
+use Rattle.px_base.specs.declared.raw.RawData.{RawData}
+use Rattle.px_base.specs.declared.raw.RawDef.{RawDef}
+use Rattle.px_base.specs.declared.raw.RawClaim.{RawClaim}
+use Rattle.px_base.specs.declared.raw.RawProgram.{RawProgram}
 use Rattle.px_parser.specs.declared.surface.SCon.{SCon}
 use Rattle.px_parser.specs.declared.surface.Item.{Item}
 use Rattle.px_parser.specs.declared.surface.Item.TheVariants as items

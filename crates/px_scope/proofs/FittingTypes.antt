@@ -5,10 +5,10 @@ use Rattle.std.specs.List.{position}
 use Rattle.std.specs.Str.{bytes_eq}
 use Rattle.std.specs.Prelude.{codes, nat_lt}
 use Rattle.std.proofs.lemmas.List.Quantifiers.{position-Some}
-use Rattle.px_terms.specs.declared.raw.RawTyKind.{RawTyKind}
-use Rattle.px_terms.specs.declared.raw.RawTyKind.TheVariants as type_kinds
-use Rattle.px_terms.specs.declared.raw.RawTy.{RawTy, out-RawTy}
-use Rattle.px_terms.specs.declared.raw.RawTy.TheViews.{out-roll-RawTy}
+use Rattle.px_base.specs.declared.raw.RawTyKind.{RawTyKind}
+use Rattle.px_base.specs.declared.raw.RawTyKind.TheVariants as type_kinds
+use Rattle.px_base.specs.declared.raw.RawTy.{RawTy, out-RawTy}
+use Rattle.px_base.specs.declared.raw.RawTy.TheViews.{out-roll-RawTy}
 use Rattle.px_parser.specs.declared.surface.SType.{SType, out-SType}
 use Rattle.px_parser.specs.Sizes.{type_size, types_size, type_depth, types_depth}
 use Rattle.px_parser.specs.SizeEquations.{type_size-out, type_depth-out, types_size-cons, length-le-types_size}

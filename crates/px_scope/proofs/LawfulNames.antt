@@ -4,9 +4,9 @@ use Rattle.std.specs.Prelude.{All, Contains, codes, flat_map}
 use Rattle.std.specs.List.{slice_get}
 use Rattle.std.proofs.lemmas.Grind.{flat_map-append}
 use Rattle.std.proofs.lemmas.List.Elements.{All-nil, All-cons, All-head, All-tail, All-push, All-map, All-from_recursion}
-use Rattle.px_terms.specs.declared.program.Names.{Names}
-use Rattle.px_terms.specs.declared.types.Prop.{Prop}
-use Rattle.px_terms.specs.declared.raw.RawProgram.{RawProgram}
+use Rattle.px_base.specs.declared.names.Names.{Names}
+use Rattle.px_base.specs.declared.prop.Prop.{Prop}
+use Rattle.px_base.specs.declared.raw.RawProgram.{RawProgram}
 use Rattle.px_lexer.specs.Bytes.{is_name_part}
 use Rattle.px_parser.specs.declared.surface.SCon.{SCon}
 use Rattle.px_parser.specs.declared.surface.SData.{SData}

@@ -1,6 +1,6 @@
 -- What names with a small letter stand for, step by step: as locals, and then at the top.
 use Rattle.std.proofs.Common.{◌≡◌, ℕ, Bool, false, List, Option, Some, None, Result, refl, sym, ap, ◌∙◌, subst}
-use Rattle.px_terms.specs.declared.types.Head.{Head}
+use Rattle.px_base.specs.declared.head.Head.{Head}
 use Rattle.px_parser.specs.declared.surface.Item.{Item}
 use Rattle.px_scope.specs.declared.ends.ScopeKind.{ScopeKind}
 use Rattle.px_scope.specs.declared.ends.ScopeKind.TheVariants.{WrongPlace}

@@ -1,15 +1,15 @@
 -- A text is at most one numbered program.
 use Rattle.std.proofs.Common.{◌≡◌, List, [], ◌∷◌, ◌++◌, refl, sym, subst}
-use Rattle.px_terms.specs.declared.raw.RawTy.{RawTy}
-use Rattle.px_terms.specs.declared.raw.RawCon.{RawCon}
-use Rattle.px_terms.specs.declared.raw.RawData.{RawData}
-use Rattle.px_terms.specs.declared.raw.RawFnType.{RawFnType}
-use Rattle.px_terms.specs.declared.raw.RawDef.{RawDef}
-use Rattle.px_terms.specs.declared.raw.RawClaim.{RawClaim}
-use Rattle.px_terms.specs.declared.raw.RawEquation.{RawEquation}
-use Rattle.px_terms.specs.declared.raw.RawLemma.{RawLemma}
-use Rattle.px_terms.specs.declared.raw.RawReplica.{RawReplica}
-use Rattle.px_terms.specs.declared.raw.RawProgram.{RawProgram}
+use Rattle.px_base.specs.declared.raw.RawTy.{RawTy}
+use Rattle.px_base.specs.declared.raw.RawCon.{RawCon}
+use Rattle.px_base.specs.declared.raw.RawData.{RawData}
+use Rattle.px_base.specs.declared.raw.RawFnType.{RawFnType}
+use Rattle.px_base.specs.declared.raw.RawDef.{RawDef}
+use Rattle.px_base.specs.declared.raw.RawClaim.{RawClaim}
+use Rattle.px_base.specs.declared.raw.RawEquation.{RawEquation}
+use Rattle.px_base.specs.declared.raw.RawLemma.{RawLemma}
+use Rattle.px_base.specs.declared.raw.RawReplica.{RawReplica}
+use Rattle.px_base.specs.declared.raw.RawProgram.{RawProgram}
 use Rattle.px_parser.specs.declared.surface.SType.{SType}
 use Rattle.px_parser.specs.declared.surface.SCon.{SCon}
 use Rattle.px_parser.specs.declared.surface.SData.{SData}

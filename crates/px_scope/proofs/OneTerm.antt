@@ -1,7 +1,7 @@
 -- A written expression is at most one with numbers for names.
 use Rattle.std.proofs.Common.{◌≡◌, ℕ, List, refl, sym, ◌∙◌}
-use Rattle.px_terms.specs.declared.raw.RawTerm.{RawTerm}
-use Rattle.px_terms.specs.declared.raw.RawArm.{RawArm}
+use Rattle.px_base.specs.declared.raw.RawTerm.{RawTerm}
+use Rattle.px_base.specs.declared.raw.RawArm.{RawArm}
 use Rattle.px_parser.specs.declared.surface.SExpr.{SExpr}
 use Rattle.px_parser.specs.declared.surface.SExprKind.{SExprKind}
 use Rattle.px_parser.specs.declared.surface.SExprKind.TheOpen.{SExprKind-F}

@@ -1,7 +1,7 @@
 -- A written type, and a function that is named with its types, is at most one with numbers for names.
 use Rattle.std.proofs.Common.{◌≡◌, List, ◌∷◌, refl}
-use Rattle.px_terms.specs.declared.raw.RawTy.{RawTy}
-use Rattle.px_terms.specs.declared.raw.RawFun.{RawFun}
+use Rattle.px_base.specs.declared.raw.RawTy.{RawTy}
+use Rattle.px_base.specs.declared.raw.RawFun.{RawFun}
 use Rattle.px_parser.specs.declared.surface.SType.{SType}
 use Rattle.px_parser.specs.declared.surface.SExpr.{SExpr}
 use Rattle.px_parser.specs.declared.surface.SExprKind.{SExprKind}

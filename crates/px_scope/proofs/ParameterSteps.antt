@@ -4,10 +4,10 @@ use Rattle.std.specs.Prelude.{if◌then◌else◌}
 use Rattle.std.specs.List.{fold}
 use Rattle.std.specs.Result.{IsErrAnd}
 use Rattle.std.proofs.lemmas.List.{take_more, append-nil}
-use Rattle.px_terms.specs.declared.types.Prop.{Prop}
-use Rattle.px_terms.specs.declared.raw.RawProp.{RawProp}
-use Rattle.px_terms.specs.declared.raw.RawTy.{RawTy}
-use Rattle.px_terms.specs.declared.raw.RawFnType.{RawFnType}
+use Rattle.px_base.specs.declared.prop.Prop.{Prop}
+use Rattle.px_base.specs.declared.raw.RawProp.{RawProp}
+use Rattle.px_base.specs.declared.raw.RawTy.{RawTy}
+use Rattle.px_base.specs.declared.raw.RawFnType.{RawFnType}
 use Rattle.px_parser.specs.declared.surface.Item.{Item}
 use Rattle.px_parser.specs.declared.surface.Name.{Name}
 use Rattle.px_parser.specs.declared.surface.SType.{SType}

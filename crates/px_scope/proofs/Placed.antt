@@ -5,7 +5,7 @@ use Rattle.std.proofs.lemmas.List.{append-nil, map-append}
 use Rattle.px_lexer.specs.declared.token.Mark.{Mark}
 use Rattle.px_parser.specs.Words.{Word}
 use Rattle.px_parser.specs.Phrases.{IsDone, IsSequence, Either, one, other, Each, IsWord, IsLower, IsUpper, IsProperty, list, between}
-use Rattle.px_terms.specs.declared.raw.RawProp.{RawProp}
+use Rattle.px_base.specs.declared.raw.RawProp.{RawProp}
 use Rattle.px_parser.specs.declared.surface.Name.{Name}
 use Rattle.px_scope.proofs.Sublists.{Sub, done, leave, sub_refl, sub_trans, sub_both}
 

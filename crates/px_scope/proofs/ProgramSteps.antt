@@ -3,15 +3,15 @@ use Rattle.std.proofs.Common.{◌≡◌, inl, inr, ℕ, ◌+◌, ◌<◌, ◌≤
 use Rattle.std.specs.List.{fold}
 use Rattle.std.specs.Result.{IsErrAnd}
 use Rattle.std.proofs.lemmas.List.{take_more, take_all, length-set}
-use Rattle.px_terms.specs.declared.types.Prop.{Prop}
-use Rattle.px_terms.specs.declared.raw.Decl.{Decl}
-use Rattle.px_terms.specs.declared.raw.Decl.TheVariants as decl
-use Rattle.px_terms.specs.declared.raw.RawData.{RawData}
-use Rattle.px_terms.specs.declared.raw.RawDef.{RawDef}
-use Rattle.px_terms.specs.declared.raw.RawClaim.{RawClaim}
-use Rattle.px_terms.specs.declared.raw.RawLemma.{RawLemma}
-use Rattle.px_terms.specs.declared.raw.RawReplica.{RawReplica}
-use Rattle.px_terms.specs.declared.raw.RawProgram.{RawProgram}
+use Rattle.px_base.specs.declared.prop.Prop.{Prop}
+use Rattle.px_base.specs.declared.raw.Decl.{Decl}
+use Rattle.px_base.specs.declared.raw.Decl.TheVariants as decl
+use Rattle.px_base.specs.declared.raw.RawData.{RawData}
+use Rattle.px_base.specs.declared.raw.RawDef.{RawDef}
+use Rattle.px_base.specs.declared.raw.RawClaim.{RawClaim}
+use Rattle.px_base.specs.declared.raw.RawLemma.{RawLemma}
+use Rattle.px_base.specs.declared.raw.RawReplica.{RawReplica}
+use Rattle.px_base.specs.declared.raw.RawProgram.{RawProgram}
 use Rattle.px_parser.specs.declared.surface.SData.{SData}
 use Rattle.px_parser.specs.declared.surface.SDef.{SDef}
 use Rattle.px_parser.specs.declared.surface.SClaim.{SClaim}

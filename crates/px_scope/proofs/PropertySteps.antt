@@ -4,8 +4,8 @@ use Rattle.std.specs.List.{fold}
 use Rattle.std.proofs.lemmas.Bool.{eq-eqb, ne_eqb}
 use Rattle.std.proofs.lemmas.List.{take_all, append-nil, get_or_default}
 use Rattle.std.proofs.lemmas.List.Folds.{list_any_more, list_any_at}
-use Rattle.px_terms.specs.declared.types.Prop.{Prop}
-use Rattle.px_terms.specs.declared.raw.RawProp.{RawProp}
+use Rattle.px_base.specs.declared.prop.Prop.{Prop}
+use Rattle.px_base.specs.declared.raw.RawProp.{RawProp}
 use Rattle.px_scope.specs.declared.ends.ScopeKind.TheVariants.{Repeated}
 use Rattle.px_scope.specs.declared.ends.ScopeEnd.{ScopeEnd}
 use Rattle.px_scope.specs.declared.ends.ScopeEnd.TheVariants.{Fault}

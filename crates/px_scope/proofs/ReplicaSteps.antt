@@ -4,10 +4,10 @@ use Rattle.std.specs.List.{flat_map}
 use Rattle.std.specs.Result.{IsErrAnd}
 use Rattle.std.proofs.lemmas.List.{take_more, take_all, append-nil, take-append-drop}
 use Rattle.std.proofs.lemmas.Grind.{flat_map-append}
-use Rattle.px_terms.specs.declared.raw.RawTy.{RawTy}
-use Rattle.px_terms.specs.declared.raw.RawFun.{RawFun}
-use Rattle.px_terms.specs.declared.raw.RawTerm.{RawTerm}
-use Rattle.px_terms.specs.declared.raw.RawEquation.{RawEquation}
+use Rattle.px_base.specs.declared.raw.RawTy.{RawTy}
+use Rattle.px_base.specs.declared.raw.RawFun.{RawFun}
+use Rattle.px_base.specs.declared.raw.RawTerm.{RawTerm}
+use Rattle.px_base.specs.declared.raw.RawEquation.{RawEquation}
 use Rattle.px_parser.specs.declared.surface.Name.{Name}
 use Rattle.px_parser.specs.declared.surface.SParam.{SParam}
 use Rattle.px_parser.specs.declared.surface.SFun.{SFun}

@@ -1,6 +1,6 @@
 -- What is parsed is small: its lists can be numbered.
 use Rattle.std.proofs.Common.{◌≤◌, get_or, arith}
-use Rattle.px_terms.specs.declared.limits.TheConstants.{PROGRAM_BYTES}
+use Rattle.px_base.specs.declared.limits.TheConstants.{PROGRAM_BYTES}
 use Rattle.px_parser.specs.declared.surface.Item.{Item}
 use Rattle.px_parser.specs.declared.surface.Item.TheVariants.{Datatype, Definition, Claim, Lemma, Replica}
 use Rattle.px_parser.specs.declared.surface.Surface.{Surface}

@@ -14,13 +14,13 @@ use Rattle.px_parser.specs.declared.surface.SExprKind.TheFolds.{map-SExprKind, f
 use Rattle.px_parser.specs.declared.surface.SArm.{SArm}
 use Rattle.px_parser.specs.declared.surface.SFun.{SFun}
 use Rattle.px_parser.specs.declared.surface.Item.{Item}
-use Rattle.px_terms.specs.declared.types.Head.{Head}
-use Rattle.px_terms.specs.declared.raw.RawTy.{RawTy}
-use Rattle.px_terms.specs.declared.raw.RawFun.{RawFun}
-use Rattle.px_terms.specs.declared.raw.RawKind.{RawKind}
-use Rattle.px_terms.specs.declared.raw.RawKind.TheVariants as kinds
-use Rattle.px_terms.specs.declared.raw.RawTerm.{RawTerm}
-use Rattle.px_terms.specs.declared.raw.RawArm.{RawArm}
+use Rattle.px_base.specs.declared.head.Head.{Head}
+use Rattle.px_base.specs.declared.raw.RawTy.{RawTy}
+use Rattle.px_base.specs.declared.raw.RawFun.{RawFun}
+use Rattle.px_base.specs.declared.raw.RawKind.{RawKind}
+use Rattle.px_base.specs.declared.raw.RawKind.TheVariants as kinds
+use Rattle.px_base.specs.declared.raw.RawTerm.{RawTerm}
+use Rattle.px_base.specs.declared.raw.RawArm.{RawArm}
 use Rattle.px_scope.specs.declared.ends.ScopeKind.{ScopeKind}
 use Rattle.px_scope.specs.declared.ends.ScopeKind.TheVariants.{WrongPlace, Repeated}
 use Rattle.px_scope.specs.declared.ends.ScopeEnd.{ScopeEnd}

@@ -1,7 +1,7 @@
 -- The places of a tree are among those of its words, in their order: each production of the grammar, joined as it is there.
 use Rattle.std.proofs.Common.{◌≡◌, ℕ, zero, suc, ◌-◌, List, [], ◌∷◌, ◌++◌, map, Some, None, refl, sym, ap, subst, ◌∙◌, append_assoc}
-use Rattle.px_terms.specs.declared.limits.TheConstants.{NESTING}
-use Rattle.px_terms.specs.declared.raw.RawProp.{RawProp}
+use Rattle.px_base.specs.declared.limits.TheConstants.{NESTING}
+use Rattle.px_base.specs.declared.raw.RawProp.{RawProp}
 use Rattle.px_lexer.specs.declared.token.Mark.TheVariants.{BraceL, BraceR, ParenL, ParenR, Less, Greater, Comma, FatArrow}
 use Rattle.px_parser.specs.Words.{Word}
 use Rattle.px_parser.specs.Phrases.{IsDone, IsSequence, IsWord, IsNumber, list, between, optional}

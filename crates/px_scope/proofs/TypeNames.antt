@@ -1,6 +1,6 @@
 -- What a type's name stands for, or the rule that it breaks.
 use Rattle.std.proofs.Common.{◌≡◌, ℕ, Bool, true, false, List, Option, Some, None, refl, sym, ap, ◌∙◌}
-use Rattle.px_terms.specs.declared.raw.RawTyKind.TheVariants as type_kinds
+use Rattle.px_base.specs.declared.raw.RawTyKind.TheVariants as type_kinds
 use Rattle.px_parser.specs.declared.surface.Item.{Item}
 use Rattle.px_scope.specs.declared.ends.ScopeKind.{ScopeKind}
 use Rattle.px_scope.specs.declared.ends.ScopeKind.TheVariants.{WrongPlace}

@@ -5,10 +5,10 @@ use Rattle.std.specs.List.{flat_map}
 use Rattle.px_parser.specs.declared.surface.SType.{SType, out-SType}
 use Rattle.px_parser.specs.declared.surface.SType.TheFolds.{fold-SType, fold_out-SType}
 use Rattle.px_parser.specs.declared.surface.Item.{Item}
-use Rattle.px_terms.specs.declared.raw.RawTy.{RawTy}
+use Rattle.px_base.specs.declared.raw.RawTy.{RawTy}
 use Rattle.px_scope.specs.declared.globals.Globals.{Globals}
 use Rattle.px_scope.specs.declared.locals.TypeLocals.{TypeLocals}
-use Rattle.px_terms.specs.declared.raw.RawTyKind.{RawTyKind}
+use Rattle.px_base.specs.declared.raw.RawTyKind.{RawTyKind}
 use Rattle.px_scope.specs.declared.ends.ScopeEnd.{ScopeEnd}
 use Rattle.px_scope.specs.Standing.{type_of}
 use Rattle.px_scope.specs.Rules.{lone_name, type_fault}

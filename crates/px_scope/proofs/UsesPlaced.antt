@@ -1,7 +1,7 @@
 -- The names that are looked at in a text's declarations stand at places of these, in their order.
 use Rattle.std.proofs.Common.{ℕ, false, List, [], ◌∷◌, ◌++◌, map, length, refl, append_assoc}
-use Rattle.px_terms.specs.declared.types.Prop.{Prop}
-use Rattle.px_terms.specs.declared.raw.RawProp.{RawProp}
+use Rattle.px_base.specs.declared.prop.Prop.{Prop}
+use Rattle.px_base.specs.declared.raw.RawProp.{RawProp}
 use Rattle.px_parser.specs.declared.surface.Name.{Name}
 use Rattle.px_parser.specs.declared.surface.SParam.{SParam}
 use Rattle.px_parser.specs.declared.surface.SParamKind.{SParamKind}

@@ -2,8 +2,8 @@
 use Rattle.std.specs.Prelude.{ℕ, ◌+◌, List, [], ◌∷◌, ◌++◌, map, length, sum_by, Option, Some, None}
 use Rattle.std.specs.List.{slice_set, slice_get, fold, range_with_len}
 use Rattle.std.specs.Option.{unwrap_or}
-use Rattle.px_terms.specs.declared.types.Prop.{Prop}
-use Rattle.px_terms.specs.declared.raw.RawProp.{RawProp}
+use Rattle.px_base.specs.declared.prop.Prop.{Prop}
+use Rattle.px_base.specs.declared.raw.RawProp.{RawProp}
 use Rattle.px_parser.specs.declared.surface.Name.{Name}
 use Rattle.px_parser.specs.declared.surface.SCon.{SCon}
 use Rattle.px_parser.specs.declared.surface.SParam.{SParam}

@@ -2,28 +2,28 @@
 -- its place, the lists can be counted by words of 32 bits, and types and terms nest within the limit.
 use Rattle.std.specs.Prelude.{◌≡◌, ℕ, suc, ◌+◌, ◌<◌, ◌^◌, List, [], ◌∷◌, map, sum, length, Some, All}
 use Rattle.std.specs.List.{slice_get}
-use Rattle.px_terms.specs.declared.limits.TheConstants.{NESTING}
-use Rattle.px_terms.specs.declared.types.Head.{Head}
-use Rattle.px_terms.specs.declared.types.Head.TheVariants.{Def, Wle, Weq, FnVar}
-use Rattle.px_terms.specs.declared.raw.Decl.{Decl}
-use Rattle.px_terms.specs.declared.raw.Decl.TheVariants as decl
-use Rattle.px_terms.specs.declared.raw.RawTyKind.{RawTyKind}
-use Rattle.px_terms.specs.declared.raw.RawTyKind.TheVariants.{Word, Var, Con}
-use Rattle.px_terms.specs.declared.raw.RawTy.{RawTy, out-RawTy}
-use Rattle.px_terms.specs.declared.raw.RawFun.{RawFun}
-use Rattle.px_terms.specs.declared.raw.RawKind.{RawKind, out-RawKind}
-use Rattle.px_terms.specs.declared.raw.RawKind.TheOpen.{RawKind-F}
-use Rattle.px_terms.specs.declared.raw.RawTerm.{RawTerm}
-use Rattle.px_terms.specs.declared.raw.RawArm.{RawArm}
-use Rattle.px_terms.specs.declared.raw.RawCon.{RawCon}
-use Rattle.px_terms.specs.declared.raw.RawData.{RawData}
-use Rattle.px_terms.specs.declared.raw.RawFnType.{RawFnType}
-use Rattle.px_terms.specs.declared.raw.RawDef.{RawDef}
-use Rattle.px_terms.specs.declared.raw.RawClaim.{RawClaim}
-use Rattle.px_terms.specs.declared.raw.RawEquation.{RawEquation}
-use Rattle.px_terms.specs.declared.raw.RawLemma.{RawLemma}
-use Rattle.px_terms.specs.declared.raw.RawReplica.{RawReplica}
-use Rattle.px_terms.specs.declared.raw.RawProgram.{RawProgram}
+use Rattle.px_base.specs.declared.limits.TheConstants.{NESTING}
+use Rattle.px_base.specs.declared.head.Head.{Head}
+use Rattle.px_base.specs.declared.head.Head.TheVariants.{Def, Wle, Weq, FnVar}
+use Rattle.px_base.specs.declared.raw.Decl.{Decl}
+use Rattle.px_base.specs.declared.raw.Decl.TheVariants as decl
+use Rattle.px_base.specs.declared.raw.RawTyKind.{RawTyKind}
+use Rattle.px_base.specs.declared.raw.RawTyKind.TheVariants.{Word, Var, Con}
+use Rattle.px_base.specs.declared.raw.RawTy.{RawTy, out-RawTy}
+use Rattle.px_base.specs.declared.raw.RawFun.{RawFun}
+use Rattle.px_base.specs.declared.raw.RawKind.{RawKind, out-RawKind}
+use Rattle.px_base.specs.declared.raw.RawKind.TheOpen.{RawKind-F}
+use Rattle.px_base.specs.declared.raw.RawTerm.{RawTerm}
+use Rattle.px_base.specs.declared.raw.RawArm.{RawArm}
+use Rattle.px_base.specs.declared.raw.RawCon.{RawCon}
+use Rattle.px_base.specs.declared.raw.RawData.{RawData}
+use Rattle.px_base.specs.declared.raw.RawFnType.{RawFnType}
+use Rattle.px_base.specs.declared.raw.RawDef.{RawDef}
+use Rattle.px_base.specs.declared.raw.RawClaim.{RawClaim}
+use Rattle.px_base.specs.declared.raw.RawEquation.{RawEquation}
+use Rattle.px_base.specs.declared.raw.RawLemma.{RawLemma}
+use Rattle.px_base.specs.declared.raw.RawReplica.{RawReplica}
+use Rattle.px_base.specs.declared.raw.RawProgram.{RawProgram}
 use Rattle.px_scope.specs.Programs.{raw_bool}
 
 -- How many declarations of each kind stand before a place.

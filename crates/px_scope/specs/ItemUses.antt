@@ -1,7 +1,7 @@
 -- The names that stand in declarations, in the order of the text, each with the first rule that it breaks at its place.
 use Rattle.std.specs.Prelude.{List, [], ◌∷◌, ◌++◌, length, Option, Some}
 use Rattle.std.specs.List.{flat_map}
-use Rattle.px_terms.specs.declared.types.Prop.{Prop}
+use Rattle.px_base.specs.declared.prop.Prop.{Prop}
 use Rattle.px_parser.specs.declared.surface.Name.{Name}
 use Rattle.px_parser.specs.declared.surface.SCon.{SCon}
 use Rattle.px_parser.specs.declared.surface.SData.{SData}

@@ -1,7 +1,7 @@
 -- The names of a program are lawful.
 use Rattle.std.specs.Prelude.{◌≡◌, ℕ, List, [], ◌∷◌, ◌++◌, Some, codes, All, Contains, flat_map}
 use Rattle.std.specs.List.{slice_get}
-use Rattle.px_terms.specs.declared.program.Names.{Names}
+use Rattle.px_base.specs.declared.names.Names.{Names}
 use Rattle.px_lexer.specs.declared.token.TokenKind.TheVariants.{Upper, Lower}
 use Rattle.px_lexer.specs.Forms.{HasForm}
 

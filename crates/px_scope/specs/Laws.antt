@@ -1,6 +1,6 @@
 -- What the definitions say of every surface.
 use Rattle.std.specs.Prelude.{◌≡◌, ℕ, ◌<◌, ◌≤◌, List, Some, Contains, AllPairs}
-use Rattle.px_terms.specs.declared.raw.RawProgram.{RawProgram}
+use Rattle.px_base.specs.declared.raw.RawProgram.{RawProgram}
 use Rattle.px_lexer.specs.declared.token.Token.{Token}
 use Rattle.px_lexer.specs.Tokens.{AreTokens}
 use Rattle.px_parser.specs.declared.surface.Surface.{Surface}

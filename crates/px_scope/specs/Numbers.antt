@@ -1,14 +1,14 @@
 -- Types, functions and expressions with numbers for names.
 use Rattle.std.specs.Prelude.{◌≡◌, ℕ, List, [], ◌∷◌, map, take, drop, Some, None}
-use Rattle.px_terms.specs.declared.types.Head.{Head}
-use Rattle.px_terms.specs.declared.raw.RawTyKind.{RawTyKind}
-use Rattle.px_terms.specs.declared.raw.RawTy.{RawTy}
-use Rattle.px_terms.specs.declared.raw.RawTy.TheViews.{roll-RawTy}
-use Rattle.px_terms.specs.declared.raw.RawFun.{RawFun}
-use Rattle.px_terms.specs.declared.raw.RawKind.{RawKind}
-use Rattle.px_terms.specs.declared.raw.RawKind.TheVariants as kinds
-use Rattle.px_terms.specs.declared.raw.RawTerm.{RawTerm}
-use Rattle.px_terms.specs.declared.raw.RawArm.{RawArm}
+use Rattle.px_base.specs.declared.head.Head.{Head}
+use Rattle.px_base.specs.declared.raw.RawTyKind.{RawTyKind}
+use Rattle.px_base.specs.declared.raw.RawTy.{RawTy}
+use Rattle.px_base.specs.declared.raw.RawTy.TheViews.{roll-RawTy}
+use Rattle.px_base.specs.declared.raw.RawFun.{RawFun}
+use Rattle.px_base.specs.declared.raw.RawKind.{RawKind}
+use Rattle.px_base.specs.declared.raw.RawKind.TheVariants as kinds
+use Rattle.px_base.specs.declared.raw.RawTerm.{RawTerm}
+use Rattle.px_base.specs.declared.raw.RawArm.{RawArm}
 use Rattle.px_parser.specs.declared.surface.Name.{Name}
 use Rattle.px_parser.specs.declared.surface.SType.{SType, out-SType}
 use Rattle.px_parser.specs.declared.surface.SExpr.{SExpr}

@@ -3,10 +3,10 @@
 use Rattle.std.specs.Prelude.{ℕ, Bool, true, false, not, ◌&&◌, ◌||◌, ◌==◌, nat_lt, cond, codes, List, [], ◌∷◌, Option, Some, None}
 use Rattle.std.specs.List.{list_any}
 use Rattle.std.specs.Str.{bytes_eq}
-use Rattle.px_terms.specs.declared.types.Prop.{Prop}
-use Rattle.px_terms.specs.declared.types.Prop.TheVariants as prop
-use Rattle.px_terms.specs.declared.raw.RawTyKind.{RawTyKind}
-use Rattle.px_terms.specs.declared.raw.RawTyKind.TheVariants as type_kinds
+use Rattle.px_base.specs.declared.prop.Prop.{Prop}
+use Rattle.px_base.specs.declared.prop.Prop.TheVariants as prop
+use Rattle.px_base.specs.declared.raw.RawTyKind.{RawTyKind}
+use Rattle.px_base.specs.declared.raw.RawTyKind.TheVariants as type_kinds
 use Rattle.px_parser.specs.declared.surface.Item.{Item}
 use Rattle.px_parser.specs.declared.surface.SType.{SType, out-SType}
 use Rattle.px_scope.specs.declared.ends.ScopeKind.{ScopeKind}

@@ -1,6 +1,6 @@
 -- Surfaces whose lists can be numbered by words of 32 bits, as each that is parsed.
 use Rattle.std.specs.Prelude.{◌<◌, ◌^◌, List, length, All}
-use Rattle.px_terms.specs.declared.raw.RawProgram.{RawProgram}
+use Rattle.px_base.specs.declared.raw.RawProgram.{RawProgram}
 use Rattle.px_parser.specs.declared.surface.Item.{Item}
 use Rattle.px_parser.specs.declared.surface.Item.TheVariants as items
 use Rattle.px_scope.specs.declared.globals.Globals.{Globals}

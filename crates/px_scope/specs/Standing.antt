@@ -3,10 +3,10 @@ use Rattle.std.specs.Prelude.{ℕ, ◌+◌, ◌-◌, List, [], ◌∷◌, Option
 use Rattle.std.specs.List.{slice_get}
 use Rattle.std.specs.Option.{option_and_then, option_map}
 use Rattle.std.specs.Str.{bytes_eq}
-use Rattle.px_terms.specs.declared.types.Head.{Head}
-use Rattle.px_terms.specs.declared.types.Head.TheVariants as heads
-use Rattle.px_terms.specs.declared.raw.RawTyKind.{RawTyKind}
-use Rattle.px_terms.specs.declared.raw.RawTyKind.TheVariants as type_kinds
+use Rattle.px_base.specs.declared.head.Head.{Head}
+use Rattle.px_base.specs.declared.head.Head.TheVariants as heads
+use Rattle.px_base.specs.declared.raw.RawTyKind.{RawTyKind}
+use Rattle.px_base.specs.declared.raw.RawTyKind.TheVariants as type_kinds
 use Rattle.px_scope.specs.declared.globals.Constructor.{Constructor}
 use Rattle.px_scope.specs.declared.globals.Meaning.{Meaning}
 use Rattle.px_scope.specs.declared.globals.Meaning.TheVariants.{Wle, Weq, Definition, Lemma, Replica}

@@ -13,7 +13,7 @@ use crate::lookups::fault;
 use crate::parameters::add_type_parameters;
 use crate::types::resolve_types;
 use px_parser::{Item, SCon, SData};
-use px_terms::{RawCon, RawData};
+use px_base::{RawCon, RawData};
 use sqlite_items::Items;
 use std::alloc::Global;
 

@@ -18,7 +18,7 @@ use crate::parameters::{Parameters, add_type_parameters, resolve_parameters};
 use crate::properties::{claim, copy_claimed, copy_props};
 use crate::types::resolve_type;
 use px_parser::{Item, Name, SClaim, SDef, SEquation, SLemma, SParam, SParamKind, SReplica};
-use px_terms::{Prop, RawClaim, RawDef, RawEquation, RawLemma, RawReplica};
+use px_base::{Prop, RawClaim, RawDef, RawEquation, RawLemma, RawReplica};
 use sqlite_items::{Items, at};
 use std::alloc::Global;
 

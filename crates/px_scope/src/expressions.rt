@@ -17,7 +17,7 @@ use crate::lookups::{
 };
 use crate::types::resolve_types;
 use px_parser::{Item, Name, SArm, SExpr, SExprKind};
-use px_terms::{RawArm, RawFun, RawKind, RawTerm};
+use px_base::{RawArm, RawFun, RawKind, RawTerm};
 use sqlite_items::{Boxed, Items};
 use std::alloc::Global;
 

@@ -15,7 +15,7 @@ use crate::locals::Locals;
 use crate::lookups::{constructor_as_function, fault, find_function, find_merge};
 use crate::types::resolve_types;
 use px_parser::{Item, SExpr, SExprKind, SFun};
-use px_terms::RawFun;
+use px_base::RawFun;
 use sqlite_items::Items;
 use std::alloc::Global;
 

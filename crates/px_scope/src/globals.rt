@@ -5,7 +5,7 @@ ghost use Rattle.px_scope.specs.Standing.{constructor_of, meaning_of, built_in};
 
 use crate::ends::ScopeEnd;
 use crate::names::NameTable;
-use px_terms::Prop;
+use px_base::Prop;
 use sqlite_items::{Items, at};
 use std::alloc::Global;
 

@@ -10,7 +10,7 @@ use crate::globals::{Constructor, Globals, Meaning};
 use crate::later::{declares_constructor, declares_lower};
 use crate::locals::{Local, Locals};
 use px_parser::{Item, Name};
-use px_terms::Head;
+use px_base::Head;
 
 /// A data variable: a parameter by its number, or a pattern's variable, counted from the inside.
 #[derive(Clone, Copy, Debug, PartialEq, Eq)]

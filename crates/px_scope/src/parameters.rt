@@ -14,7 +14,7 @@ use crate::lookups::fault;
 use crate::properties::{claim, copy_props};
 use crate::types::{resolve_type, resolve_types};
 use px_parser::{Item, Name, SFnType, SParam, SParamKind};
-use px_terms::{RawFnType, RawTy};
+use px_base::{RawFnType, RawTy};
 use sqlite_items::Items;
 use std::alloc::Global;
 

@@ -1,8 +1,8 @@
 //! Programs.
 ghost use Rattle.std.specs.Prelude.{◌≡◌, ◌≤◌, IfOk, IfErr, Ok, Err};
-ghost use Rattle.px_terms.specs.declared.raw.RawProgram.{RawProgram as AnyProgram};
+ghost use Rattle.px_base.specs.declared.raw.RawProgram.{RawProgram as AnyProgram};
 ghost use Rattle.px_scope.specs.declared.ends.ScopeEnd.TheVariants as ends;
-ghost use Rattle.px_terms.specs.declared.limits.TheConstants.{PROGRAM_BYTES};
+ghost use Rattle.px_base.specs.declared.limits.TheConstants.{PROGRAM_BYTES};
 ghost use Rattle.px_parser.specs.declared.surface.Item.TheVariants as items;
 ghost use Rattle.px_parser.specs.Sizes.{surface_size, IsWithinNesting};
 ghost use Rattle.px_parser.specs.Filled.{IsFilled};
@@ -22,7 +22,7 @@ use crate::declarations::{resolve_claim, resolve_definition, resolve_lemma, reso
 use crate::ends::ScopeEnd;
 use crate::globals::Globals;
 use px_parser::{Item, SClaim, SCon, SData, SDef, SLemma, SReplica, Surface};
-use px_terms::{Decl, Names, RawCon, RawData, RawProgram, Text};
+use px_base::{Decl, Names, RawCon, RawData, RawProgram, Text};
 use sqlite_items::Items;
 use std::alloc::Global;
 

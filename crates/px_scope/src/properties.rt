@@ -7,7 +7,7 @@ ghost use Rattle.px_scope.specs.Answers.{Resolves};
 
 use crate::ends::{ScopeEnd, ScopeKind};
 use crate::lookups::fault;
-use px_terms::{Prop, RawProp};
+use px_base::{Prop, RawProp};
 use sqlite_items::Items;
 use std::alloc::Global;
 

@@ -13,7 +13,7 @@ use crate::later::declares_type;
 use crate::locals::TypeLocals;
 use crate::lookups::{absent_kind, fault, is_number};
 use px_parser::{Item, SType};
-use px_terms::{RawTy, RawTyKind};
+use px_base::{RawTy, RawTyKind};
 use sqlite_items::Items;
 use std::alloc::Global;
 

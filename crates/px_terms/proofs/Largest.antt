@@ -1,6 +1,6 @@
 -- The largest of some numbers, one more of them at a time.
 use Rattle.std.proofs.Common.{◌≡◌, ℕ, zero, suc, ◌+◌, ◌<◌, max, min, List, [], ◌∷◌, length, map, get_or, take, arith, add-one, ap}
-use Rattle.px_terms.specs.Types.{largest}
+use Rattle.px_base.specs.Largest.{largest}
 
 largest-take-suc : {A : Type 0} (f : A → ℕ) (xs : List A) (i : ℕ) (x : A) → i < length xs →
     largest (map f (take (suc i) xs)) ≡ max (largest (map f (take i xs))) (f (get_or xs i x))

@@ -3,8 +3,8 @@ use Rattle.std.specs.Prelude.{◌≡◌, ℕ, ◌+◌, List, [], ◌∷◌, ◌+
 use Rattle.std.specs.Option.{option_map}
 use Rattle.px_terms.specs.declared.types.Ty.{Ty}
 use Rattle.px_terms.specs.declared.types.Fun.{Fun}
-use Rattle.px_terms.specs.declared.types.Head.{Head}
-use Rattle.px_terms.specs.declared.types.Head.TheVariants.{Def, Wle, Weq, FnVar}
+use Rattle.px_base.specs.declared.head.Head.{Head}
+use Rattle.px_base.specs.declared.head.Head.TheVariants.{Def, Wle, Weq, FnVar}
 use Rattle.px_terms.specs.declared.term.Term.{Term, out-Term}
 use Rattle.px_terms.specs.declared.term.Term.TheOpen.{Term-F}
 use Rattle.px_terms.specs.declared.term.Value.{Value, out-Value}

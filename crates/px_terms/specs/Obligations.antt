@@ -1,6 +1,6 @@
 -- The obligations of a program: its declared properties and lemmas in order, each with its clause.
 use Rattle.std.specs.Prelude.{◌≡◌, ℕ, [], ◌∷◌, Some, slice_get}
-use Rattle.px_terms.specs.declared.types.Prop.{Prop}
+use Rattle.px_base.specs.declared.prop.Prop.{Prop}
 use Rattle.px_terms.specs.declared.clause.Clause.{Clause}
 use Rattle.px_terms.specs.declared.program.Lemma.{Lemma}
 use Rattle.px_terms.specs.declared.program.Declared.{Declared}

@@ -9,7 +9,7 @@ use Rattle.px_terms.specs.declared.sequent.Frame.{Frame}
 use Rattle.px_terms.specs.declared.sequent.Sequent.{Sequent}
 use Rattle.px_terms.specs.declared.row.Side.{Side}
 use Rattle.px_terms.specs.declared.row.Side.TheVariants.{Left, Right}
-use Rattle.px_terms.specs.declared.limits.TheConstants.{SEQUENT_NODES, SEQUENT_DEPTH, FACTS, VARIABLES}
+use Rattle.px_base.specs.declared.limits.TheConstants.{SEQUENT_NODES, SEQUENT_DEPTH, FACTS, VARIABLES}
 use Rattle.px_terms.specs.Types.{ty_size, ty_depth}
 use Rattle.px_terms.specs.Terms.{term_size, term_depth, term_put}
 use Rattle.px_terms.specs.TreeEdits.{with_side}

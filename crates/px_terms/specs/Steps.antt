@@ -2,7 +2,7 @@
 use Rattle.std.specs.Prelude.{◌≡◌, ℕ, List, [], Some, slice_get}
 use Rattle.px_terms.specs.declared.types.Ty.{Ty}
 use Rattle.px_terms.specs.declared.types.Fun.{Fun}
-use Rattle.px_terms.specs.declared.types.Head.TheVariants.{Def}
+use Rattle.px_base.specs.declared.head.Head.TheVariants.{Def}
 use Rattle.px_terms.specs.declared.term.Term.{Term, out-Term}
 use Rattle.px_terms.specs.declared.term.Term.TheOpen.{Term-F}
 use Rattle.px_terms.specs.declared.clause.Equation.{Equation}

@@ -6,7 +6,8 @@ use Rattle.px_terms.specs.declared.term.Term.TheVariants.{Free, Bound, Lit, Con,
 use Rattle.px_terms.specs.declared.term.Term.TheOpen.{Term-F}
 use Rattle.px_terms.specs.declared.term.Term.TheFolds.{fold-Term}
 use Rattle.px_terms.specs.declared.clause.Sigma.{Sigma}
-use Rattle.px_terms.specs.Types.{largest, tys_size, tys_depth, fun_size, fun_depth, tys_instance, fun_instance}
+use Rattle.px_base.specs.Largest.{largest}
+use Rattle.px_terms.specs.Types.{tys_size, tys_depth, fun_size, fun_depth, tys_instance, fun_instance}
 
 -- each term, type and function argument is one node; a call's function is none, and its types stand below the call
 abbrev pub term_size_step : Term-F ℕ → ℕ

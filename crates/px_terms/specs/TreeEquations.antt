@@ -11,7 +11,8 @@ use Rattle.px_terms.specs.declared.term.Term.TheVariants.{Free, Bound, Lit, Con,
 use Rattle.px_terms.specs.declared.term.Term.TheOpen.{Term-F}
 use Rattle.px_terms.specs.declared.term.Term.TheFolds.{fold-roll-Term}
 use Rattle.px_terms.specs.declared.clause.Sigma.{Sigma}
-use Rattle.px_terms.specs.Types.{largest, ty_size_step, ty_size, tys_size, ty_depth_step, ty_depth, tys_depth, ty_instance_step, ty_instance, tys_instance, fun_size, fun_depth, fun_instance}
+use Rattle.px_base.specs.Largest.{largest}
+use Rattle.px_terms.specs.Types.{ty_size_step, ty_size, tys_size, ty_depth_step, ty_depth, tys_depth, ty_instance_step, ty_instance, tys_instance, fun_size, fun_depth, fun_instance}
 use Rattle.px_terms.specs.Terms.{term_size_step, term_size, terms_size, term_depth_step, term_depth, terms_depth, instance_step, term_instance, put_step, term_put}
 
 pub ty_size-Word : ty_size ty.Word ≡ 1

@@ -3,7 +3,7 @@ use Rattle.std.specs.Prelude.{◌≡◌, ℕ, ◌<◌, List, [], ◌∷◌, ◌+
 use Rattle.px_terms.specs.declared.types.Ty.{Ty, out-Ty}
 use Rattle.px_terms.specs.declared.types.Ty.TheVariants as type
 use Rattle.px_terms.specs.declared.types.Ty.TheOpen.{Ty-F}
-use Rattle.px_terms.specs.declared.types.Head.TheVariants.{Def}
+use Rattle.px_base.specs.declared.head.Head.TheVariants.{Def}
 use Rattle.px_terms.specs.declared.term.Term.{Term, out-Term}
 use Rattle.px_terms.specs.declared.term.Term.TheOpen.{Term-F}
 use Rattle.px_terms.specs.declared.program.ConDef.{ConDef}

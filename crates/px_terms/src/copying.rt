@@ -1,9 +1,9 @@
 ghost use Rattle.std.specs.Prelude.{◌≡◌, IfOk};
 
 use crate::clause::{Equation, EquationList};
-use crate::memory::NoMemory;
 use crate::term::Term;
 use crate::types::{FnType, Fun, Ty};
+use px_base::NoMemory;
 use sqlite_items::{Boxed, Items};
 use std::alloc::Global;
 

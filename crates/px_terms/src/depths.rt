@@ -1,5 +1,6 @@
 ghost use Rattle.std.specs.Prelude.{◌≡◌, ◌-◌, ◌^◌, map, min};
-ghost use Rattle.px_terms.specs.Types.{fun_depth, largest, ty_depth, tys_depth};
+ghost use Rattle.px_base.specs.Largest.{largest};
+ghost use Rattle.px_terms.specs.Types.{fun_depth, ty_depth, tys_depth};
 ghost use Rattle.px_terms.specs.Terms.{term_depth, terms_depth};
 
 use crate::term::Term;

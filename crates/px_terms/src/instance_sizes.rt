@@ -5,7 +5,8 @@ ghost use Rattle.px_terms.specs.Terms.{term_instance, term_size, terms_size};
 use crate::clause::Sigma;
 use crate::sizes::{size, size_of_ty, size_of_tys};
 use crate::term::Term;
-use crate::types::{Fun, Head, Ty};
+use crate::types::{Fun, Ty};
+use px_base::Head;
 use sqlite_items::at;
 
 /// The nodes of the type with these types put in for its type variables, or 2^64 - 1 where it has more.

@@ -4,9 +4,9 @@ ghost use Rattle.px_terms.specs.Terms.{term_instance};
 
 use crate::clause::Sigma;
 use crate::copying::{copy, copy_fun, copy_ty};
-use crate::memory::NoMemory;
 use crate::term::Term;
-use crate::types::{Fun, Head, Ty};
+use crate::types::{Fun, Ty};
+use px_base::{Head, NoMemory};
 use sqlite_items::{Boxed, Items, at};
 use std::alloc::Global;
 

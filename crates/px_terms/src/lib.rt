@@ -1,5 +1,5 @@
 //! Types, terms, programs, sequents and rows of derivations, as plain data, with the operations on
-//! terms: paths, copies and instances; and written programs, with their places in the text. Contracts see
+//! terms: paths, copies and instances. It gives on all of `px_base`. Contracts see
 //! each of them as the tree that it is, so a copy equals its source. The definitions of the language stand
 //! in `specs/`: meaning, typing, clauses, steps, derivations and their text. Nothing here reads bytes.
 #![tactic(auto)]
@@ -7,17 +7,12 @@
 mod clause;
 mod copying;
 mod depths;
-mod example_laws;
 mod instance_sizes;
 mod instances;
-mod laws;
-pub mod limits;
-mod memory;
 mod path;
 mod places;
 mod program;
 mod putting;
-mod raw;
 mod row;
 mod sameness;
 mod sequent;
@@ -25,7 +20,6 @@ mod sizes;
 mod term;
 #[cfg(test)]
 mod tests;
-mod text;
 mod types;
 
 pub use clause::{Clause, Equation, EquationList, Sigma};
@@ -34,30 +28,22 @@ pub use copying::{
     copy_terms, copy_ty, copy_tys,
 };
 pub use depths::{depth, depth_of_terms, depth_of_ty, depth_of_tys};
-pub use example_laws::{
-    bool_has_two_values, constant_is_not_idempotent, examples_are_plain, examples_hold_or_fail,
-    false_is_not_true, left_is_not_commutative, or_is_commutative, or_is_idempotent,
-};
 pub use instance_sizes::size_of_instance;
 pub use instances::{
     instance, instance_of_fun, instance_of_funs, instance_of_terms, instance_of_ty, instance_of_tys,
 };
-pub use laws::{
-    derivations_are_sound, one_clause, one_meaning, one_opening, stack_is_tree, stack_is_trees,
-};
-pub use memory::NoMemory;
 pub use path::Path;
 pub use places::{at_path, child, replace_at};
-pub use program::{ConDef, DataDef, Declared, Def, Lemma, Names, Program, ReplicaDef};
+pub use program::{ConDef, DataDef, Declared, Def, Lemma, Program, ReplicaDef};
 pub use putting::{put, put_equations};
-pub use raw::{
-    Decl, RawArm, RawClaim, RawCon, RawData, RawDef, RawEquation, RawFnType, RawFun, RawKind,
-    RawLemma, RawProgram, RawProp, RawReplica, RawTerm, RawTy, RawTyKind,
+pub use px_base::{
+    Decl, Head, Names, NoMemory, Prop, PropSet, RawArm, RawClaim, RawCon, RawData, RawDef,
+    RawEquation, RawFnType, RawFun, RawKind, RawLemma, RawProgram, RawProp, RawReplica, RawTerm,
+    RawTy, RawTyKind, Text, limits,
 };
 pub use row::{Kind, Ref, Row, Side, Target};
 pub use sameness::{same_fun, same_funs, same_term, same_terms, same_ty, same_tys};
 pub use sequent::{Context, Frame, Present, Sequent};
 pub use sizes::{size, size_of_terms, size_of_ty, size_of_tys};
 pub use term::{Term, Value};
-pub use text::Text;
-pub use types::{FnType, Fun, Head, Prop, PropSet, Ty};
+pub use types::{FnType, Fun, Ty};

@@ -3,9 +3,9 @@ ghost use Rattle.std.specs.Option.{option_copied, option_map};
 ghost use Rattle.px_terms.specs.Terms.{children, replaced, subterm};
 
 use crate::copying::{copy, copy_fun, copy_funs, copy_terms, copy_tys};
-use crate::memory::NoMemory;
 use crate::path::Path;
 use crate::term::Term;
+use px_base::NoMemory;
 use sqlite_items::{Boxed, Items, at};
 use std::alloc::Global;
 

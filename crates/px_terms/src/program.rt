@@ -1,7 +1,7 @@
 use crate::clause::{Equation, EquationList};
 use crate::term::Term;
-use crate::text::Text;
-use crate::types::{FnType, Fun, Prop, Ty};
+use crate::types::{FnType, Fun, Ty};
+use px_base::{Names, Prop};
 use sqlite_items::Items;
 
 /// A constructor: the types of its fields.
@@ -54,16 +54,6 @@ pub struct ReplicaDef {
     pub merge: Fun,
     pub funs: Items<Fun>,
     pub seen: u32,
-}
-
-/// The names by number; `cons` has a list for each datatype.
-#[derive(Drop)]
-pub struct Names {
-    pub datatypes: Items<Text>,
-    pub cons: Items<Items<Text>>,
-    pub defs: Items<Text>,
-    pub lemmas: Items<Text>,
-    pub replicas: Items<Text>,
 }
 
 /// A program: its declarations by number, its obligations in the order of the text, and its names.

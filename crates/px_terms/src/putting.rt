@@ -4,8 +4,8 @@ ghost use Rattle.px_terms.specs.TreeEdits.{equation_put, equations_put};
 
 use crate::clause::{Equation, EquationList};
 use crate::copying::{copy, copy_fun, copy_funs, copy_tys};
-use crate::memory::NoMemory;
 use crate::term::Term;
+use px_base::NoMemory;
 use sqlite_items::{Boxed, Items};
 use std::alloc::Global;
 

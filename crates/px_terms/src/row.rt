@@ -1,5 +1,5 @@
 use crate::path::Path;
-use crate::types::{Head, Prop};
+use px_base::{Head, Prop};
 use sqlite_items::Items;
 
 /// A side of an equation.

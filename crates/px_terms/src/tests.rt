@@ -1,7 +1,7 @@
 use crate::{
     Equation, EquationList, FnType, Fun, Head, NoMemory, Path, PropSet, Side, Sigma, Term, Ty,
-    at_path, copy, copy_equations, copy_fn_type, depth, depth_of_ty, instance, put, put_equations,
-    replace_at, same_term, same_ty, size, size_of_instance, size_of_ty,
+    at_path, copy, copy_equations, copy_fn_type, depth, instance, put, put_equations, replace_at,
+    same_term, same_ty, size, size_of_instance,
 };
 use sqlite_items::{Boxed, Items};
 use std::alloc::Global;
@@ -58,14 +58,6 @@ fn deep(alloc: Global, inside: Term, count: u32) -> Result<Term, NoMemory> {
         nest = con(alloc, fields);
     }
     Ok(nest)
-}
-
-/// A datatype with this type as its argument.
-fn type_with(alloc: Global, arg: Ty) -> Result<Ty, NoMemory> {
-    Ok(Ty::Con {
-        datatype: 3,
-        args: one_type(alloc, arg)?,
-    })
 }
 
 fn fun(alloc: Global, head: Head, ty: Ty) -> Result<Fun, NoMemory> {
@@ -216,119 +208,6 @@ fn finds_and_replaces_parts(rt: HostRuntime) -> Result<(), Fail> {
     for absent in [[1, 1], [2, 0], [0, 0]] {
         assert!(rt; is_absent(alloc, &term, &absent)?);
     }
-    Ok(())
-}
-
-/// A call of a function variable, with its arguments.
-fn general_call(alloc: Global) -> Result<Term, NoMemory> {
-    let args = two_terms(alloc, Term::Free(0), Term::Free(5))?;
-    let function = fun(alloc, Head::FnVar(0), Ty::Var(0))?;
-    let argument = fun(alloc, Head::FnVar(1), Ty::Var(0))?;
-    call(alloc, function, argument, args)
-}
-
-/// Its instance: what has no number in range stays.
-fn special_call(alloc: Global) -> Result<Term, NoMemory> {
-    let args = two_terms(alloc, Term::Lit(7), Term::Free(5))?;
-    let function = fun(alloc, Head::Def(9), Ty::Word)?;
-    let argument = fun(alloc, Head::FnVar(1), Ty::Word)?;
-    call(alloc, function, argument, args)
-}
-
-#[test]
-fn puts_in_functions(rt: HostRuntime) -> Result<(), Fail> {
-    let alloc = rt.alloc();
-    let general = general_call(alloc)?;
-    let special = special_call(alloc)?;
-    assert!(rt; instance_is(alloc, &general, &special)?);
-    Ok(())
-}
-
-#[test]
-fn puts_in_types_and_terms(rt: HostRuntime) -> Result<(), Fail> {
-    let alloc = rt.alloc();
-    let general = choice(alloc, Ty::Var(0), Term::Free(0), Term::Free(1))?;
-    let special = choice(alloc, Ty::Word, Term::Lit(7), Term::Free(1))?;
-    assert!(rt; instance_is(alloc, &general, &special)?);
-    assert!(rt; instance_is(alloc, &special, &special)?);
-    assert!(rt; !put_is(alloc, &general, &special)?);
-    Ok(())
-}
-
-/// A call of a comparison with a function argument above two types, and two arguments.
-fn comparison(alloc: Global) -> Result<Term, NoMemory> {
-    let args = two_terms(alloc, Term::Free(0), Term::Lit(1))?;
-    let function = fun(alloc, Head::Wle, Ty::Word)?;
-    let argument = fun(alloc, Head::Weq, type_with(alloc, Ty::Word)?)?;
-    call(alloc, function, argument, args)
-}
-
-#[test]
-fn counts_nodes_and_levels(rt: HostRuntime) -> Result<(), Fail> {
-    let alloc = rt.alloc();
-    let small = comparison(alloc)?;
-    // the call, its type, the function argument above two types, and two arguments
-    assert_eq!(rt; size(&small), 7);
-    assert_eq!(rt; depth(&small), 4);
-    let term = sample(alloc, Head::Def(4), 5, Term::Free(2), 6)?;
-    // the call, its type, the function argument and its type, the variable, and the match with seven nodes
-    assert_eq!(rt; size(&term), 12);
-    assert_eq!(rt; depth(&term), 4);
-    assert_eq!(rt; size(&Term::Bound(0)), 1);
-    assert_eq!(rt; depth(&Term::Bound(0)), 1);
-    Ok(())
-}
-
-#[test]
-fn counts_types(rt: HostRuntime) -> Result<(), Fail> {
-    let alloc = rt.alloc();
-    let ty = type_with(alloc, type_with(alloc, Ty::Var(0))?)?;
-    assert_eq!(rt; size_of_ty(&ty), 3);
-    assert_eq!(rt; depth_of_ty(&ty), 3);
-    assert!(rt; same_ty(&ty, &ty));
-    Ok(())
-}
-
-/// Whether the term is this sample.
-fn is_sample(
-    alloc: Global,
-    t: &Term,
-    head: Head,
-    argument: u32,
-    inner: u64,
-    arm: u64,
-) -> Result<bool, NoMemory> {
-    let other = sample(alloc, head, argument, Term::Lit(inner), arm)?;
-    Ok(same_term(t, &other))
-}
-
-#[test]
-fn tells_terms_apart(rt: HostRuntime) -> Result<(), Fail> {
-    let alloc = rt.alloc();
-    let term = sample(alloc, Head::Def(4), 5, Term::Lit(2), 6)?;
-    assert!(rt; is_sample(alloc, &term, Head::Def(4), 5, 2, 6)?);
-    assert!(rt;
-        !is_sample(alloc, &term, Head::Def(3), 5, 2, 6)?,
-        "the head"
-    );
-    assert!(rt;
-        !is_sample(alloc, &term, Head::Def(4), 3, 2, 6)?,
-        "the function argument"
-    );
-    assert!(rt;
-        !is_sample(alloc, &term, Head::Def(4), 5, 3, 6)?,
-        "the literal"
-    );
-    assert!(rt; !is_sample(alloc, &term, Head::Def(4), 5, 2, 3)?, "the arm");
-    Ok(())
-}
-
-#[test]
-fn tells_type_arguments_apart(rt: HostRuntime) -> Result<(), Fail> {
-    let alloc = rt.alloc();
-    let word = choice(alloc, Ty::Word, Term::Free(0), Term::Lit(2))?;
-    let variable = choice(alloc, Ty::Var(0), Term::Free(0), Term::Lit(2))?;
-    assert!(rt; !same_term(&word, &variable));
     Ok(())
 }
 

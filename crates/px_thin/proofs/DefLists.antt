@@ -4,8 +4,8 @@ use Rattle.std.proofs.lemmas.List.{length-map, take_more, length-take-le, append
 use Rattle.px_terms.specs.declared.program.Def as definition
 use Rattle.px_terms.specs.declared.program.Declared.{Declared}
 use Rattle.px_terms.specs.declared.program.Declared.TheVariants as declared
-use Rattle.px_terms.specs.declared.raw.RawProp.{RawProp}
-use Rattle.px_terms.specs.declared.raw.RawDef.{RawDef}
+use Rattle.px_terms.specs.RawProp.{RawProp}
+use Rattle.px_terms.specs.RawDef.{RawDef}
 use Rattle.px_thin.specs.Thin.{IsThinDef, AreThinDefs, none, more, declared_from, AreThinParts}
 
 -- the obligations of definition n

@@ -3,11 +3,11 @@ use Rattle.std.proofs.Common.{◌≡◌, ℕ, ◌<◌, List, [], ◌∷◌, leng
 use Rattle.std.specs.Result.{IsErrAnd}
 use Rattle.px_terms.specs.declared.term.Term.{Term}
 use Rattle.px_terms.specs.declared.term.Term.TheVariants as term
-use Rattle.px_terms.specs.declared.raw.RawTy.{RawTy}
-use Rattle.px_terms.specs.declared.raw.RawKind.{RawKind, out-RawKind}
-use Rattle.px_terms.specs.declared.raw.RawKind.TheVariants as kinds
-use Rattle.px_terms.specs.declared.raw.RawTerm.{RawTerm}
-use Rattle.px_terms.specs.declared.raw.RawArm.{RawArm}
+use Rattle.px_terms.specs.RawTy.{RawTy}
+use Rattle.px_terms.specs.RawKind.{RawKind, out-RawKind}
+use Rattle.px_terms.specs.RawKind.TheVariants as kinds
+use Rattle.px_terms.specs.RawTerm.{RawTerm}
+use Rattle.px_terms.specs.RawArm.{RawArm}
 use Rattle.px_thin.specs.declared.end.ThinEnd.{ThinEnd}
 use Rattle.px_thin.specs.declared.end.ThinEnd.TheVariants.{NotThin, NoMemory}
 use Rattle.px_thin.specs.declared.terms.Arm.{Arm}

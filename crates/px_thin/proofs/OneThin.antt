@@ -4,11 +4,11 @@ use Rattle.px_terms.specs.declared.term.Term.{Term}
 use Rattle.px_terms.specs.declared.term.Term.TheVariants as term
 use Rattle.px_terms.specs.declared.program.Def as definition
 use Rattle.px_terms.specs.declared.program.Program.{Program}
-use Rattle.px_terms.specs.declared.raw.RawKind.{RawKind}
-use Rattle.px_terms.specs.declared.raw.RawKind.TheOpen.{RawKind-F}
-use Rattle.px_terms.specs.declared.raw.RawTerm.{RawTerm}
-use Rattle.px_terms.specs.declared.raw.RawArm.{RawArm}
-use Rattle.px_terms.specs.declared.raw.RawDef.{RawDef}
+use Rattle.px_terms.specs.RawKind.{RawKind}
+use Rattle.px_terms.specs.RawKind.TheOpen.{RawKind-F}
+use Rattle.px_terms.specs.RawTerm.{RawTerm}
+use Rattle.px_terms.specs.RawArm.{RawArm}
+use Rattle.px_terms.specs.RawDef.{RawDef}
 use Rattle.px_thin.specs.Thin.{IsThinLayer, variable, truth, choice, AreThinArms, false_first, true_first, IsThinDef, AreThinDefs, none, more, bool_def, OneThinProgram}
 
 one_match : (on other a b c d t u : Term) → t ≡ term.Match on 0 [] (a ∷ b ∷ []) → u ≡ term.Match other 0 [] (c ∷ d ∷ []) → on ≡ other → (a ≡ c) × (b ≡ d) → t ≡ u

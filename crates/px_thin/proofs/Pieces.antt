@@ -1,7 +1,7 @@
 -- From what was taken of a written program to its thin program.
 use Rattle.std.proofs.Common.{◌≡◌, [], inl, ap, refl, Ok}
 use Rattle.px_terms.specs.declared.program.Program.{Program}
-use Rattle.px_terms.specs.declared.raw.RawProgram.{RawProgram}
+use Rattle.px_terms.specs.RawProgram.{RawProgram}
 use Rattle.px_thin.specs.declared.programs.Pieces as programs
 use Rattle.px_thin.specs.Thin.{IsThinProgram}
 use Rattle.px_thin.specs.Ends.{IsUnlessNoMemory, AreThinPieces}

@@ -2,7 +2,7 @@
 use Rattle.std.proofs.Common.{◌≡◌, ℕ, zero, suc, ◌<◌, ◌≤◌, ◌^◌, List, [], ◌∷◌, ◌++◌, length, Some, None, sym, refl, ap, ◌∙◌, subst, arith, length-append, zero-add, replicate}
 use Rattle.std.proofs.lemmas.List.{length-replicate}
 use Rattle.std.specs.List.{slice_get}
-use Rattle.px_terms.specs.declared.types.Prop.{Prop}
+use Rattle.px_terms.specs.Prop.{Prop}
 use Rattle.px_terms.specs.declared.term.Term.{Term}
 use Rattle.px_terms.specs.declared.term.Term.TheVariants as term
 use Rattle.px_terms.specs.declared.clause.Clause.{Clause}
@@ -11,11 +11,11 @@ use Rattle.px_terms.specs.declared.program.Def as definition
 use Rattle.px_terms.specs.declared.program.Declared.{Declared}
 use Rattle.px_terms.specs.declared.program.Declared.TheVariants as declared
 use Rattle.px_terms.specs.declared.program.Program.{Program}
-use Rattle.px_terms.specs.declared.raw.RawKind.{RawKind}
-use Rattle.px_terms.specs.declared.raw.RawKind.TheOpen.{RawKind-F}
-use Rattle.px_terms.specs.declared.raw.RawTerm.{RawTerm}
-use Rattle.px_terms.specs.declared.raw.RawArm.{RawArm}
-use Rattle.px_terms.specs.declared.raw.RawProgram.{RawProgram}
+use Rattle.px_terms.specs.RawKind.{RawKind}
+use Rattle.px_terms.specs.RawKind.TheOpen.{RawKind-F}
+use Rattle.px_terms.specs.RawTerm.{RawTerm}
+use Rattle.px_terms.specs.RawArm.{RawArm}
+use Rattle.px_terms.specs.RawProgram.{RawProgram}
 use Rattle.px_terms.specs.Programs.{bool_type, bool_data}
 use Rattle.px_terms.specs.Plain.{IsPlainLayer, ArePlain, IsPlain, AreBools, IsPlainDef, IsPlainProgram}
 use Rattle.px_terms.specs.Clauses.{IsClause}

@@ -5,7 +5,7 @@ use Rattle.std.specs.Option.{option_and_then}
 use Rattle.std.proofs.lemmas.List.{replicate-append-replicate}
 use Rattle.std.proofs.lemmas.List.Elements.{All-head, All-tail}
 use Rattle.px_terms.specs.declared.types.Ty.TheVariants as type
-use Rattle.px_terms.specs.declared.types.Prop.{Prop}
+use Rattle.px_terms.specs.Prop.{Prop}
 use Rattle.px_terms.specs.declared.term.Term.{Term}
 use Rattle.px_terms.specs.declared.term.Term.TheVariants as term
 use Rattle.px_terms.specs.declared.sequent.Context.{Context}
@@ -15,13 +15,13 @@ use Rattle.px_terms.specs.declared.program.Def as definition
 use Rattle.px_terms.specs.declared.program.Declared.{Declared}
 use Rattle.px_terms.specs.declared.program.Declared.TheVariants as declared
 use Rattle.px_terms.specs.declared.program.Program.{Program}
-use Rattle.px_terms.specs.declared.raw.RawKind.{RawKind}
-use Rattle.px_terms.specs.declared.raw.RawKind.TheOpen.{RawKind-F}
-use Rattle.px_terms.specs.declared.raw.RawTerm.{RawTerm}
-use Rattle.px_terms.specs.declared.raw.RawArm.{RawArm}
-use Rattle.px_terms.specs.declared.raw.RawProp.{RawProp}
-use Rattle.px_terms.specs.declared.raw.RawDef.{RawDef}
-use Rattle.px_terms.specs.declared.raw.RawProgram.{RawProgram}
+use Rattle.px_terms.specs.RawKind.{RawKind}
+use Rattle.px_terms.specs.RawKind.TheOpen.{RawKind-F}
+use Rattle.px_terms.specs.RawTerm.{RawTerm}
+use Rattle.px_terms.specs.RawArm.{RawArm}
+use Rattle.px_terms.specs.RawProp.{RawProp}
+use Rattle.px_terms.specs.RawDef.{RawDef}
+use Rattle.px_terms.specs.RawProgram.{RawProgram}
 use Rattle.px_terms.specs.Programs.{bool_type, bool_data, constructor_at}
 use Rattle.px_terms.specs.Typing.{IsTypeLayer, AreTypes, IsType, HasTypeLayer, HaveTypes, HaveTypesInArms, HasType, HasSignature, HasTypedBody, live}
 use Rattle.px_terms.specs.Clauses.{Shape, IsClause, comm_clause, idem_clause}

@@ -1,8 +1,8 @@
 -- What the answers of this crate's calls say.
 use Rattle.std.specs.Prelude.{◌≡◌, ◌≢◌, ◌⊎◌, ℕ, ◌<◌, [], ◌∷◌, Result, Ok, Err}
 use Rattle.px_terms.specs.declared.program.Program.{Program}
-use Rattle.px_terms.specs.declared.raw.RawArm.{RawArm}
-use Rattle.px_terms.specs.declared.raw.RawProgram.{RawProgram}
+use Rattle.px_terms.specs.RawArm.{RawArm}
+use Rattle.px_terms.specs.RawProgram.{RawProgram}
 use Rattle.px_terms.specs.Programs.{bool_data}
 use Rattle.px_thin.specs.declared.end.ThinEnd.{ThinEnd}
 use Rattle.px_thin.specs.declared.end.ThinEnd.TheVariants.{NotThin, NoMemory}

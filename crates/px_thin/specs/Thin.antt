@@ -1,23 +1,23 @@
 -- Thin programs: definitions over `Bool` alone, with commutativity and idempotence. Which program a written one is.
 use Rattle.std.specs.Prelude.{◌≡◌, ◌≢◌, ◌<◌, ◌≤◌, ◌+◌, ◌^◌, ℕ, List, [], ◌∷◌, ◌++◌, length, map, replicate, All}
-use Rattle.px_terms.specs.declared.types.Prop.{Prop}
-use Rattle.px_terms.specs.declared.types.Prop.TheVariants as prop
+use Rattle.px_terms.specs.Prop.{Prop}
+use Rattle.px_terms.specs.Prop.TheVariants as prop
 use Rattle.px_terms.specs.declared.term.Term.{Term}
 use Rattle.px_terms.specs.declared.term.Term.TheVariants as term
 use Rattle.px_terms.specs.declared.program.Def as definition
 use Rattle.px_terms.specs.declared.program.Declared.{Declared}
 use Rattle.px_terms.specs.declared.program.Declared.TheVariants as declared
 use Rattle.px_terms.specs.declared.program.Program.{Program}
-use Rattle.px_terms.specs.declared.raw.RawTyKind.TheVariants as kinds
-use Rattle.px_terms.specs.declared.raw.RawTy.{RawTy, out-RawTy}
-use Rattle.px_terms.specs.declared.raw.RawProp.{RawProp}
-use Rattle.px_terms.specs.declared.raw.RawKind.{RawKind, out-RawKind}
-use Rattle.px_terms.specs.declared.raw.RawKind.TheOpen.{RawKind-F}
-use Rattle.px_terms.specs.declared.raw.RawTerm.{RawTerm}
-use Rattle.px_terms.specs.declared.raw.RawArm.{RawArm}
-use Rattle.px_terms.specs.declared.raw.RawDef.{RawDef}
-use Rattle.px_terms.specs.declared.raw.RawProgram.{RawProgram}
-use Rattle.px_terms.specs.declared.limits.TheConstants.{CLAUSE_VARIABLES}
+use Rattle.px_terms.specs.RawTyKind.TheVariants as kinds
+use Rattle.px_terms.specs.RawTy.{RawTy, out-RawTy}
+use Rattle.px_terms.specs.RawProp.{RawProp}
+use Rattle.px_terms.specs.RawKind.{RawKind, out-RawKind}
+use Rattle.px_terms.specs.RawKind.TheOpen.{RawKind-F}
+use Rattle.px_terms.specs.RawTerm.{RawTerm}
+use Rattle.px_terms.specs.RawArm.{RawArm}
+use Rattle.px_terms.specs.RawDef.{RawDef}
+use Rattle.px_terms.specs.RawProgram.{RawProgram}
+use Rattle.px_terms.specs.limits.TheConstants.{CLAUSE_VARIABLES}
 use Rattle.px_terms.specs.Programs.{bool_type, bool_data}
 use Rattle.px_terms.specs.Plain.{IsPlainProgram}
 

@@ -4,7 +4,7 @@ ghost use Rattle.std.specs.Prelude.{◌≡◌, ◌++◌, List, map, replicate, I
 ghost use Rattle.px_terms.specs.declared.program.Def.{Def as AnyDef};
 ghost use Rattle.px_terms.specs.declared.program.Declared.{Declared as AnyDeclared};
 ghost use Rattle.px_terms.specs.declared.program.Declared.TheVariants as obligations;
-ghost use Rattle.px_terms.specs.declared.raw.RawProp.{RawProp as Property};
+ghost use Rattle.px_terms.specs.RawProp.{RawProp as Property};
 ghost use Rattle.px_terms.specs.Programs.{bool_type as boolean};
 ghost use Rattle.px_thin.specs.Thin.{IsThinDef, AreThinParts};
 ghost use Rattle.px_thin.specs.Ends.{SaysOf};

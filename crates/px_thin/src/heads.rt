@@ -1,7 +1,7 @@
 //! What stands before the body of a thin definition.
 
 ghost use Rattle.std.specs.Prelude.{◌≤◌, ◌↔◌, IsTrue, All};
-ghost use Rattle.px_terms.specs.declared.raw.RawProp.{RawProp as Property};
+ghost use Rattle.px_terms.specs.RawProp.{RawProp as Property};
 ghost use Rattle.px_thin.specs.Thin.{IsBool, IsThinProp, IsThinHead};
 
 use px_terms::limits::CLAUSE_VARIABLES;

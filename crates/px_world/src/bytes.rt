@@ -1,6 +1,6 @@
 ghost use Rattle.std.specs.Prelude.{◌≡◌, [], ◌∷◌, ◌++◌, length, OnOk, OnErr, IfOk, IsTrue, ◌↔◌};
 
-use px_terms::NoMemory;
+use px_base::NoMemory;
 use std::alloc::Global;
 use std::marker::Model;
 

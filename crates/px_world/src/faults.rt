@@ -2,7 +2,7 @@ ghost use Rattle.std.specs.Prelude.{◌≡◌, ◌≤◌};
 ghost use Rattle.px_world.specs.Faults.{next_count};
 ghost use Rattle.px_world.specs.declared.faults.ReadEnd.TheVariants.{NoMemory as NoMemoryEnd};
 
-use px_terms::NoMemory;
+use px_base::NoMemory;
 
 /// A call of a device failed. The device has raised its count of faults.
 #[derive(Clone, Copy, Debug, PartialEq, Eq)]

@@ -4,7 +4,7 @@ ghost use Rattle.std.specs.Option.{ForSome};
 use crate::faults::fault;
 use crate::texts::{NamedText, copy_piece, newest_of, rest_of};
 use crate::{Bytes, Failed, Files};
-use px_terms::{NoMemory, Text};
+use px_base::{NoMemory, Text};
 use std::alloc::Global;
 
 /// Where the next read of an open text begins: which text it is, and how many of its bytes were given.

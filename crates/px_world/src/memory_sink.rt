@@ -2,7 +2,7 @@ ghost use Rattle.std.specs.Prelude.{◌≡◌, ◌<◌};
 
 use crate::faults::fault;
 use crate::{Failed, Sink};
-use px_terms::NoMemory;
+use px_base::NoMemory;
 use std::alloc::Global;
 
 /// A sink in memory that tells its bytes. A write takes at most `piece` bytes. The writes whose numbers

@@ -2,7 +2,7 @@ ghost use Rattle.std.specs.Prelude.{◌≡◌, ◌<◌, ◌^◌, min, length, ta
 ghost use Rattle.px_world.specs.Texts.{IsNewest, bytes_at};
 
 use crate::Bytes;
-use px_terms::Text;
+use px_base::Text;
 
 /// A text and the name that it has.
 #[derive(Drop)]

@@ -1,7 +1,7 @@
 use Rattle.std.proofs.Common.{◌∙◌, ap, ◌++◌, ◌∷◌, [], List, ℕ, map}
 use Rattle.px_terms.specs.declared.types.Ty.{Ty}
 use Rattle.px_terms.specs.declared.types.Fun.{Fun}
-use Rattle.px_terms.specs.declared.types.Head.TheVariants as heads
+use Rattle.px_terms.specs.Head.TheVariants as heads
 use Rattle.px_terms.specs.Clauses.{numbers_from}
 use Rattle.px_replay.proofs.Numbers.{numbered-last}
 use Rattle.px_replay.proofs.clauses.function_variables.Goals as goal

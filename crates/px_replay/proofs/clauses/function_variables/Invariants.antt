@@ -1,6 +1,6 @@
 use Rattle.std.proofs.Common.{◌≡◌, ℕ, List, [], map}
 use Rattle.px_terms.specs.declared.types.Fun.{Fun}
-use Rattle.px_terms.specs.declared.types.Head.TheVariants as heads
+use Rattle.px_terms.specs.Head.TheVariants as heads
 use Rattle.px_terms.specs.Clauses.{numbers_from}
 use Rattle.px_replay.proofs.clauses.function_variables.Given as goal
 

@@ -1,6 +1,6 @@
 use Rattle.std.proofs.Common.{true, false, ◌≡◌, refl, ◌-◌, ◌∷◌, ◌++◌, [], ⊎_elim, take, length, List, Some, slice_get, sym, ap, subst, ◌∙◌}
 use Rattle.px_terms.specs.declared.types.Ty.{Ty}
-use Rattle.px_terms.specs.declared.types.Prop.{Prop}
+use Rattle.px_terms.specs.Prop.{Prop}
 use Rattle.px_terms.specs.declared.program.Def.{Def}
 use Rattle.px_terms.specs.Clauses.{IsClause, Shape, comm, idem}
 use Rattle.px_replay.proofs.RowLemmas.{two_last}

@@ -4,9 +4,9 @@ use Rattle.std.specs.List.{flat_map}
 use Rattle.px_parser.specs.declared.surface.SExpr.{SExpr}
 use Rattle.px_parser.specs.declared.surface.SExprKind.TheVariants.{Lower}
 use Rattle.px_parser.specs.declared.surface.SArm.{SArm}
-use Rattle.px_terms.specs.declared.raw.RawKind.{RawKind}
-use Rattle.px_terms.specs.declared.raw.RawKind.TheVariants as kinds
-use Rattle.px_terms.specs.declared.raw.RawTerm.{RawTerm}
+use Rattle.px_base.specs.declared.raw.RawKind.{RawKind}
+use Rattle.px_base.specs.declared.raw.RawKind.TheVariants as kinds
+use Rattle.px_base.specs.declared.raw.RawTerm.{RawTerm}
 use Rattle.px_scope.specs.declared.locals.Locals.{Locals}
 use Rattle.px_scope.specs.declared.lookups.Variable.{Variable}
 use Rattle.px_scope.specs.Uses.{first_broken, expr_uses, arm_uses, Data, bind}

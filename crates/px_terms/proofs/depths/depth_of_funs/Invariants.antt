@@ -1,5 +1,6 @@
 use Rattle.std.proofs.Common.{◌≡◌, take, min, ◌-◌, ◌^◌, map}
-use Rattle.px_terms.specs.Types.{largest, fun_depth}
+use Rattle.px_base.specs.Largest.{largest}
+use Rattle.px_terms.specs.Types.{fun_depth}
 use Rattle.px_terms.proofs.depths.depth_of_funs.Given as goal
 
 abbrev pub invariant-loop-fun : goal.invariant-loop-fun

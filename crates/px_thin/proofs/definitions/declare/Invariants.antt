@@ -1,5 +1,5 @@
 use Rattle.std.proofs.Common.{◌≡◌, ◌++◌, map, take}
-use Rattle.px_terms.specs.declared.raw.RawProp.{RawProp}
+use Rattle.px_terms.specs.RawProp.{RawProp}
 use Rattle.px_terms.specs.declared.program.Declared.TheVariants as obligations
 use Rattle.px_thin.proofs.definitions.declare.Given as goal
 

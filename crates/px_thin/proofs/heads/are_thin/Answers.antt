@@ -1,6 +1,6 @@
 use Rattle.std.proofs.Common.{refl}
 use Rattle.std.proofs.lemmas.List.Elements.{All-more}
-use Rattle.px_terms.specs.declared.raw.RawProp.{RawProp}
+use Rattle.px_terms.specs.RawProp.{RawProp}
 use Rattle.px_thin.specs.Thin.{IsThinProp}
 use Rattle.px_thin.proofs.Every.{All-seen}
 use Rattle.px_thin.proofs.heads.are_thin.Goals as goal

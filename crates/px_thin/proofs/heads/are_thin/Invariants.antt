@@ -1,5 +1,5 @@
 use Rattle.std.proofs.Common.{All, take}
-use Rattle.px_terms.specs.declared.raw.RawProp.{RawProp}
+use Rattle.px_terms.specs.RawProp.{RawProp}
 use Rattle.px_thin.specs.Thin.{IsThinProp}
 use Rattle.px_thin.proofs.heads.are_thin.Given as goal
 
