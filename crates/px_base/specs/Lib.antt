@@ -1,1 +1,5 @@
 pub mod Largest
+pub mod Distinct
+pub mod NameForms
+pub mod Lawful
+pub mod Fitting
