@@ -15,9 +15,8 @@ use Rattle.px_terms.specs.declared.row.Kind.{Kind}
 use Rattle.px_terms.specs.declared.row.Target.TheVariants as target
 use Rattle.px_terms.specs.declared.row.Row.{Row}
 use Rattle.px_terms.specs.declared.row.Row.TheVariants as row
-use Rattle.px_terms.specs.Types.{tys_instance}
+use Rattle.px_terms.specs.Types.{tys_instance, numbers_from}
 use Rattle.px_terms.specs.Typing.{live}
-use Rattle.px_terms.specs.Clauses.{numbers_from}
 use Rattle.px_terms.specs.Obligations.{IsObligation}
 use Rattle.px_terms.specs.Sequents.{side_of, own_frame, first_sequent, IsWithinLimits, with_alternative_side, frame_put}
 use Rattle.px_terms.specs.TreeEdits.{equations_put}

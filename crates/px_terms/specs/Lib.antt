@@ -1,4 +1,9 @@
 pub use Rattle.px_base.specs.Largest
+pub use Rattle.px_base.specs.Distinct
+pub use Rattle.px_base.specs.NameForms
+pub use Rattle.px_base.specs.Lawful
+pub use Rattle.px_base.specs.PropSets
+pub use Rattle.px_base.specs.Fitting
 pub use Rattle.px_base.specs.declared.head.Head
 pub use Rattle.px_base.specs.declared.limits
 pub use Rattle.px_base.specs.declared.names.Names
@@ -28,9 +33,12 @@ pub mod TreeEquations
 pub mod Programs
 pub mod Values
 pub mod Meaning
+pub mod Implied
 pub mod Typing
-pub mod TypedSequents
 pub mod Clauses
+pub mod TypedPrograms
+pub mod TypedSequents
+pub mod Descent
 pub mod Holding
 pub mod Obligations
 pub mod Sequents

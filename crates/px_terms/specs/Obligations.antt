@@ -1,14 +1,13 @@
 -- The obligations of a program: its declared properties and lemmas in order, each with its clause.
 use Rattle.std.specs.Prelude.{◌≡◌, ℕ, [], ◌∷◌, Some, slice_get}
 use Rattle.px_base.specs.declared.prop.Prop.{Prop}
+use Rattle.px_base.specs.declared.head.Head.TheVariants.{Def}
 use Rattle.px_terms.specs.declared.clause.Clause.{Clause}
 use Rattle.px_terms.specs.declared.program.Lemma.{Lemma}
 use Rattle.px_terms.specs.declared.program.Declared.{Declared}
 use Rattle.px_terms.specs.declared.program.Declared.TheVariants as declared
 use Rattle.px_terms.specs.declared.program.Program.{Program}
-use Rattle.px_terms.specs.declared.program.Def as definition
-use Rattle.px_terms.specs.Typing.{HasSignature, HasTypedBody}
-use Rattle.px_terms.specs.Clauses.{IsClause}
+use Rattle.px_terms.specs.Clauses.{IsClauseOf}
 use Rattle.px_terms.specs.Holding.{Holds}
 
 -- what a lemma says: its premises give its conclusion
@@ -17,7 +16,7 @@ lemma_clause l = record { tparams = l.tparams; funs = l.funs; vars = l.vars; pre
 
 -- the clause of a declared obligation
 pub data IsDeclaredClause (P : Program) : Declared → Clause → Type 0 where
-  of_property : {d : ℕ} {p : Prop} {clause : Clause} → IsClause P d p clause → IsDeclaredClause P (declared.Property d p) clause
+  of_property : {n : ℕ} {p : Prop} {clause : Clause} → IsClauseOf P [] (Def n) p clause → IsDeclaredClause P (declared.Property n p) clause
   of_lemma : {n : ℕ} {l : Lemma} {clause : Clause} → slice_get P.lemmas n ≡ Some l → clause ≡ lemma_clause l → IsDeclaredClause P (declared.Lemma n) clause
 
 -- obligation n of the program has this clause
@@ -29,9 +28,3 @@ pub record IsObligation (P : Program) (n : ℕ) (clause : Clause) : Type 0 where
 -- every obligation of the program holds
 pub record AllHold (P : Program) : Type 0 where
   pub each : (n : ℕ) (clause : Clause) → IsObligation P n clause → Holds P clause
-
--- the program is typed: each definition's signature and body, and each declared property fits its definition
-pub record IsTyped (P : Program) : Type 0 where
-  pub signatures : (n : ℕ) (d : definition.Def) → slice_get P.defs n ≡ Some d → HasSignature P d
-  pub bodies : (n : ℕ) (d : definition.Def) → slice_get P.defs n ≡ Some d → HasTypedBody P d
-  pub properties : (n : ℕ) (declared : Declared) → slice_get P.declared n ≡ Some declared → (clause : Clause) × IsDeclaredClause P declared clause

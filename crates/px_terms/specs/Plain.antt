@@ -6,7 +6,7 @@ use Rattle.px_terms.specs.declared.term.Term.TheOpen.{Term-F}
 use Rattle.px_terms.specs.declared.program.Def as definition
 use Rattle.px_terms.specs.declared.program.Program.{Program}
 use Rattle.px_terms.specs.Programs.{bool_type, bool_data}
-use Rattle.px_terms.specs.Obligations.{IsTyped}
+use Rattle.px_terms.specs.TypedPrograms.{IsTyped}
 
 mutual
   -- a variable, a constructor of `Bool`, or a match on such a term: nothing is called, and nothing is bound

@@ -7,18 +7,18 @@ use Rattle.px_terms.specs.declared.sequent.Context.{Context}
 use Rattle.px_terms.specs.declared.sequent.Present.{Present}
 use Rattle.px_terms.specs.declared.sequent.Sequent.{Sequent}
 use Rattle.px_terms.specs.Programs.{bool_type}
-use Rattle.px_terms.specs.Typing.{HasType}
+use Rattle.px_terms.specs.Typing.{anywhere, HasType}
 
 -- Both sides have one type, `Bool` or another.
 pub record IsTypedEquation (P : Program) (context : Context) (e : Equation) : Type 0 where
   pub T : Ty
-  pub left : HasType P context e.left T
-  pub right : HasType P context e.right T
+  pub left : HasType P anywhere context e.left T
+  pub right : HasType P anywhere context e.right T
 
 -- The present term has a type.
 pub record IsTypedPresent (P : Program) (context : Context) (p : Present) : Type 0 where
   pub T : Ty
-  pub term : HasType P context p.term T
+  pub term : HasType P anywhere context p.term T
 
 -- Every variable number given out has a place in the context, and all parts of the sequent are typed.
 pub record IsTypedSequent (P : Program) (s : Sequent) : Type 0 where

@@ -1,13 +1,19 @@
 -- Types and functions as trees: their sizes, their depths and their instances.
-use Rattle.std.specs.Prelude.{ℕ, ◌+◌, List, [], ◌∷◌, map, sum, unwrap_or, slice_get}
+use Rattle.std.specs.Prelude.{ℕ, zero, suc, ◌+◌, List, [], ◌∷◌, map, sum, unwrap_or, slice_get}
 use Rattle.px_base.specs.Largest.{largest}
 use Rattle.px_terms.specs.declared.types.Ty.{Ty}
 use Rattle.px_terms.specs.declared.types.Ty.TheVariants.{Word, Var, Con}
 use Rattle.px_terms.specs.declared.types.Ty.TheOpen.{Ty-F}
 use Rattle.px_terms.specs.declared.types.Ty.TheFolds.{fold-Ty}
+use Rattle.px_terms.specs.declared.types.FnType.{FnType}
 use Rattle.px_terms.specs.declared.types.Fun.{Fun}
 use Rattle.px_base.specs.declared.head.Head.{Head}
 use Rattle.px_base.specs.declared.head.Head.TheVariants.{Def, Wle, Weq, FnVar}
+
+-- the numbers from start on, count of them
+abbrev pub numbers_from : ℕ → ℕ → List ℕ
+numbers_from start zero = []
+numbers_from start (suc count) = start ∷ numbers_from (start + 1) count
 
 -- a type is one node above its arguments
 abbrev pub ty_size_step : Ty-F ℕ → ℕ
@@ -73,3 +79,15 @@ function_at Weq funs f = f
 -- the function with these types and functions put in for its variables
 abbrev pub fun_instance : List Ty → List Fun → Fun → Fun
 fun_instance types funs f = function_at f.head funs (fun_with_types types f)
+
+-- the function type with these types put in for its type variables
+abbrev pub fn_type_instance : List Ty → FnType → FnType
+fn_type_instance types F = record F { params = tys_instance types F.params; result = ty_instance types F.result }
+
+-- a definition's own type parameters in order, so many
+abbrev pub own_types : ℕ → List Ty
+own_types count = map (λ (i : ℕ). Var i) (numbers_from 0 count)
+
+-- a definition's own function parameters in order, so many
+abbrev pub own_functions : ℕ → List Fun
+own_functions count = map (λ (i : ℕ). record { head = FnVar i; types = [] }) (numbers_from 0 count)
