@@ -1,0 +1,8 @@
+//! Typing: a written program, with its places in the text, becomes the typed program of the same declarations, or has a
+//! first fault. The relation of typing stands in `px_terms`; here stands which typed declaration a written one is
+//! (`specs/Written.antt`), and which fault is its first (`specs/Faults.antt`).
+#![tactic(auto)]
+
+mod ends;
+
+pub use ends::{TypeEnd, TypeKind};
