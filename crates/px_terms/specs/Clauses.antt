@@ -41,13 +41,15 @@ equals left right = record { left = left; right = right }
 abbrev pub applied : Subject → Term → Term → Term
 applied s a b = term.Call s.function s.given (map (λ (i : ℕ). term.Free i) (numbers_from 0 (length s.leading)) ++ a ∷ b ∷ [])
 
--- the variables x, y and z, which come after the leading ones
+-- the variable x, which comes after the leading ones
 abbrev pub x_of : Subject → Term
 x_of s = term.Free (length s.leading)
 
+-- the variable y, which comes after x
 abbrev pub y_of : Subject → Term
 y_of s = term.Free (length s.leading + 1)
 
+-- the variable z, which comes after y
 abbrev pub z_of : Subject → Term
 z_of s = term.Free (length s.leading + 2)
 

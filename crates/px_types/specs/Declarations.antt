@@ -38,7 +38,7 @@ use Rattle.px_terms.specs.declared.program.Program.{Program}
 use Rattle.px_terms.specs.Programs.{bool_data}
 use Rattle.px_terms.specs.Typing.{in_body, behind, IsFunction, IsKnown}
 use Rattle.px_terms.specs.Clauses.{functions_alone}
-use Rattle.px_terms.specs.TypedPrograms.{Fits, AreFnTypes, IsTypedData, HasSignature, IsTypedDef, IsTypedLemma, IsTypedReplica, own_context, lemma_context}
+use Rattle.px_terms.specs.TypedPrograms.{Fits, AreWrittenFnTypes, IsTypedData, HasSignature, IsTypedDef, IsTypedLemma, IsTypedReplica, own_context, lemma_context}
 use Rattle.px_types.specs.declared.ends.TypeKind.TheVariants.{Arity, PropertyShape, NotJoin, Oversize}
 use Rattle.px_types.specs.Written.{IsTy, AreTys, IsFun, AreFuns, props_of, AreFnTys, IsTerm}
 use Rattle.px_types.specs.Faults.{Broken, breaks, Env, Counts, counts_of, AreRight, BreaksTys, AreRightArguments, BreaksArguments, IsTyped, AreTyped, Breaks, BreaksParts}
@@ -208,7 +208,7 @@ pub data BreaksLemma (P : Program) (l : RawLemma) : Broken → Type 0 where
   many : {fault : Broken} → ¬ IsFew l → fault ≡ breaks Oversize l.at → BreaksLemma P l fault
   types : {fault : Broken} → IsFew l → BreaksTys P l.tparams (fn_types_written l.funs ++ l.vars) fault → BreaksLemma P l fault
   assumed : {fault : Broken} {L : Lemma} → IsFew l → IsLemmaHead l L → HasWritten P l.tparams (fn_types_written l.funs ++ l.vars) → BreaksAssumed P L.funs 0 l.funs fault → BreaksLemma P l fault
-  equations : {fault : Broken} {L : Lemma} → IsFew l → IsLemmaHead l L → HasWritten P l.tparams (fn_types_written l.funs ++ l.vars) → AreFnTypes P l.tparams L.funs → BreaksEquations (lemma_env P L) (l.premises ++ l.conclusion ∷ []) fault → BreaksLemma P l fault
+  equations : {fault : Broken} {L : Lemma} → IsFew l → IsLemmaHead l L → HasWritten P l.tparams (fn_types_written l.funs ++ l.vars) → AreWrittenFnTypes P l.tparams L.funs → BreaksEquations (lemma_env P L) (l.premises ++ l.conclusion ∷ []) fault → BreaksLemma P l fault
 
 -- where the parts of a replica stand, which is behind all obligations so far
 abbrev pub replica_env : Program → Env
