@@ -1,5 +1,5 @@
 -- Small programs: true properties hold, and false ones do not.
-use Rattle.std.proofs.Common.{◌≡◌, ◌⊎◌, inl, inr, ℕ, zero, suc, ◌<◌, List, [], ◌∷◌, ◌++◌, Bool, true, false, Some, None, refl, sym, ap, ◌∙◌, slice_get, option_and_then, subst, arith}
+use Rattle.std.proofs.Common.{◌≡◌, ◌⊎◌, inl, inr, ℕ, zero, suc, ◌<◌, List, [], ◌∷◌, Bool, true, false, Some, None, refl, sym, ap, ◌∙◌, slice_get, option_and_then, subst, arith}
 use Rattle.px_terms.specs.declared.types.Ty.{Ty, out-Ty}
 use Rattle.px_terms.specs.declared.types.Ty.TheOpen.{Ty-F}
 use Rattle.px_terms.specs.declared.types.Ty.TheVariants as type
@@ -33,7 +33,7 @@ use Rattle.px_soundness.specs.Validity as fitting
 use Rattle.px_soundness.specs.Examples.{bool_program, bool_subject, bool_comm, bool_idem, or_body, or_program, left_program, constant_program, false_is_true}
 use Rattle.px_soundness.specs.ExampleLaws.{ExamplesHoldOrFail, BoolHasTwoValues, OrIsCommutative, OrIsIdempotent, LeftIsNotCommutative, ConstantIsNotIdempotent, FalseIsNotTrue}
 use Rattle.px_soundness.proofs.Existence.{IsTruth, truth_value, truth_of}
-use Rattle.px_soundness.proofs.BoolTerms.{some_is, nothing_is_some}
+use Rattle.px_soundness.proofs.BoolTerms.{nothing_is_some}
 use Rattle.px_soundness.proofs.OneClause.{one_clause}
 use Rattle.px_soundness.proofs.PlainExamples.{bool_obligation}
 use Rattle.px_soundness.proofs.Unique.{unique}

@@ -12,12 +12,11 @@ use Rattle.px_terms.specs.declared.term.Value.{Value, out-Value, roll-Value}
 use Rattle.px_terms.specs.declared.term.Value.TheViews.{roll-out-Value}
 use Rattle.px_terms.specs.declared.term.Value.TheVariants as value
 use Rattle.px_terms.specs.declared.term.Value.TheOpen.{Value-F}
-use Rattle.px_terms.specs.declared.program.DataDef.{DataDef}
 use Rattle.px_terms.specs.declared.program.Def as definition
 use Rattle.px_terms.specs.declared.program.Program.{Program}
 use Rattle.px_terms.specs.Types.{ty_instance, tys_instance}
 use Rattle.px_terms.specs.TreeEquations.{ty_instance-Con}
-use Rattle.px_terms.specs.Programs.{bool_type, bool_data, constructor_at}
+use Rattle.px_terms.specs.Programs.{bool_type, bool_data}
 use Rattle.px_terms.specs.Values.{IsInLayer, AreIn, IsIn}
 use Rattle.px_terms.specs.Values as values
 use Rattle.px_terms.specs.Meaning.{truth, chosen, MeansOf, MeanAll, Gives, Means, free, con, choose, call, none, more, defined}

@@ -27,7 +27,6 @@ use Rattle.px_terms.specs.Programs.{bool_type, false_term, true_term}
 use Rattle.px_terms.specs.Values.{AreIn}
 use Rattle.px_terms.specs.Values as values
 use Rattle.px_terms.specs.Typing.{live}
-use Rattle.px_terms.specs.TypedSequents.{HasBoolVariables}
 use Rattle.px_terms.specs.Clauses.{Subject, equals, applied, x_of, y_of, z_of, says, clause_for, functions_alone}
 use Rattle.px_terms.specs.Holding.{FunsFit, HoldsIn}
 use Rattle.px_terms.specs.Obligations.{IsDeclaredClause, of_property, of_lemma, IsObligation, AllHold}
@@ -99,35 +98,33 @@ module _ (P : Program) (n : ℕ) (D : definition.Def) (s : Subject) (found : sli
   abbrev types_of : ℕ → List Ty
   types_of k = s.leading ++ replicate k s.last
 
-  -- the term is over `Bool` where so many are named
-  abbrev IsBool : ℕ → Term → Type 0
-  IsBool k t = IsBoolTerm P (live (types_of k)) t
-
   all_bools : (k : ℕ) → Bools (types_of k)
   all_bools k = bools_behind s.leading s.last k is.leading is.last
 
   many : (k : ℕ) → length (types_of k) ≡ length s.leading + k
   many k = length-append s.leading (replicate k s.last) ∙ ap (λ (m : ℕ). length s.leading + m) (length-replicate k s.last)
 
-  free_bool : (k i : ℕ) → i < length s.leading + k → IsBool k (term.Free i)
-  free_bool k i below = subst (IsBoolLayer P (live (types_of k)) (Unit {0})) (sym (term.outs-Free i)) (bool_variable (bool_at (types_of k) i (let e = many k in omega (arith, e)) (all_bools k)))
+  -- The term is over `Bool` where so many are named.
+  record IsOver (k : ℕ) (t : Term) : Type 0 where
+    term : IsBoolTerm P (live (types_of k)) t
 
-  x : (k : ℕ) → 0 < k → IsBool k (x_of s)
-  x k some = free_bool k (length s.leading) (omega arith)
+  -- The equations are over `Bool` where so many are named.
+  record AreOver (k : ℕ) (es : List Equation) : Type 0 where
+    all : All (IsBoolEquation P (live (types_of k))) es
 
-  y : (k : ℕ) → 1 < k → IsBool k (y_of s)
-  y k some = free_bool k (length s.leading + 1) (omega arith)
+  over : (k : ℕ) (t : Term) (y : Term-F Term) → out-Term t ≡ y → IsBoolLayer P (live (types_of k)) (Unit {0}) y → IsOver k t
+  over k t y layer is_bool = record { term = subst (IsBoolLayer P (live (types_of k)) (Unit {0})) (sym layer) is_bool }
 
-  z : (k : ℕ) → 2 < k → IsBool k (z_of s)
-  z k some = free_bool k (length s.leading + 2) (omega arith)
+  variable : (k i : ℕ) → i < length s.leading + k → IsOver k (term.Free i)
+  variable k i below = over k (term.Free i) (Term-F.Free i) (term.outs-Free i) (bool_variable (bool_at (types_of k) i (let e = many k in omega (arith, e)) (all_bools k)))
 
-  false_bool : (k : ℕ) → IsBool k false_term
-  false_bool k = subst (IsBoolLayer P (live (types_of k)) (Unit {0})) (sym (term.outs-Con 0 0 [] [])) (bool_truth (omega arith))
+  is_false : {k : ℕ} → IsOver k false_term
+  is_false {k} = over k false_term (Term-F.Con 0 0 [] []) (term.outs-Con 0 0 [] []) (bool_truth (omega arith))
 
-  true_bool : (k : ℕ) → IsBool k true_term
-  true_bool k = subst (IsBoolLayer P (live (types_of k)) (Unit {0})) (sym (term.outs-Con 0 1 [] [])) (bool_truth (omega arith))
+  is_true : {k : ℕ} → IsOver k true_term
+  is_true {k} = over k true_term (Term-F.Con 0 1 [] []) (term.outs-Con 0 1 [] []) (bool_truth (omega arith))
 
-  -- variables from start on, and two more arguments
+  -- so many variables from one on, and two more arguments
   abbrev arguments_from : ℕ → ℕ → Term → Term → List Term
   arguments_from start count a b = map (λ (i : ℕ). term.Free i) (numbers_from start count) ++ a ∷ b ∷ []
 
@@ -135,73 +132,75 @@ module _ (P : Program) (n : ℕ) (D : definition.Def) (s : Subject) (found : sli
   how_many start zero a b = refl
   how_many start (suc count) a b = let e = how_many (start + 1) count a b in omega (arith, e)
 
-  arguments_bool : (k start count : ℕ) (a b : Term) → start + count ≤ length s.leading → IsBool k a → IsBool k b → AreBoolTerms P (live (types_of k)) (Unit {0}) (arguments_from start count a b)
-  arguments_bool k start zero a b within a_bool b_bool = more_bools a_bool (more_bools b_bool no_bool)
-  arguments_bool k start (suc count) a b within a_bool b_bool = more_bools {t = term.Free start} (free_bool k start (omega arith)) (arguments_bool k (start + 1) count a b (omega arith) a_bool b_bool)
+  arguments_bool : (k start count : ℕ) (a b : Term) → start + count ≤ length s.leading → IsOver k a → IsOver k b → AreBoolTerms P (live (types_of k)) (Unit {0}) (arguments_from start count a b)
+  arguments_bool k start zero a b within first second = more_bools first.term (more_bools second.term no_bool)
+  arguments_bool k start (suc count) a b within first second = more_bools {t = term.Free start} (variable k start (omega arith)).term (arguments_bool k (start + 1) count a b (omega arith) first second)
 
   applied_is : (a b : Term) → applied s a b ≡ term.Call (record { head = Def n; types = [] }) [] (arguments_from 0 (length s.leading) a b)
-  applied_is a b = ap (λ (f : Fun). term.Call f s.given (arguments_from 0 (length s.leading) a b)) is.function ∙ ap (λ (given : List Fun). term.Call (record { head = Def n; types = [] }) given (arguments_from 0 (length s.leading) a b)) is.given
-
-  call : (k : ℕ) (a b : Term) → IsBool k a → IsBool k b → IsBool k (applied s a b)
-  call k a b a_bool b_bool =
+  applied_is a b =
       let args : List Term = arguments_from 0 (length s.leading) a b in
-      let layer : out-Term (applied s a b) ≡ Term-F.Call (record { head = Def n; types = [] }) [] args = ap out-Term (applied_is a b) ∙ term.outs-Call (record { head = Def n; types = [] }) [] args in
-      subst (IsBoolLayer P (live (types_of k)) (Unit {0})) (sym layer) (bool_call tt found (arguments_bool k 0 (length s.leading) a b (omega arith) a_bool b_bool) (how_many 0 (length s.leading) a b ∙ sym is.long))
+      ap (λ (f : Fun). term.Call f s.given args) is.function ∙ ap (λ (given : List Fun). term.Call (record { head = Def n; types = [] }) given args) is.given
 
-  -- the equations are over `Bool` where so many are named
-  abbrev AreBool : ℕ → List Equation → Type 0
-  AreBool k es = All (IsBoolEquation P (live (types_of k))) es
+  -- a call on two terms over `Bool`, behind the leading variables
+  call : {k : ℕ} {a b : Term} → IsOver k a → IsOver k b → IsOver k (applied s a b)
+  call {k} {a} {b} first second =
+      let args : List Term = arguments_from 0 (length s.leading) a b in
+      let bools = arguments_bool k 0 (length s.leading) a b (omega arith) first second in
+      over k (applied s a b) (Term-F.Call (record { head = Def n; types = [] }) [] args) (ap out-Term (applied_is a b) ∙ term.outs-Call (record { head = Def n; types = [] }) [] args) (bool_call tt found bools (how_many 0 (length s.leading) a b ∙ sym is.long))
 
-  nothing : (k : ℕ) → AreBool k []
-  nothing k = All-nil (IsBoolEquation P (live (types_of k)))
+  nothing : {k : ℕ} → AreOver k []
+  nothing {k} = record { all = All-nil (IsBoolEquation P (live (types_of k))) }
 
-  also : (k : ℕ) (left right : Term) (es : List Equation) → IsBool k left → IsBool k right → AreBool k es → AreBool k (equals left right ∷ es)
-  also k left right es left_bool right_bool rest = All-cons (IsBoolEquation P (live (types_of k))) (equals left right) es (record { left = left_bool; right = right_bool }) rest
+  also : {k : ℕ} {left right : Term} {es : List Equation} → IsOver k left → IsOver k right → AreOver k es → AreOver k (equals left right ∷ es)
+  also {k} {left} {right} {es} first second others = record { all = All-cons (IsBoolEquation P (live (types_of k))) (equals left right) es (record { left = first.term; right = second.term }) others.all }
 
-  one : (k : ℕ) (left right : Term) → IsBool k left → IsBool k right → AreBool k (equals left right ∷ [])
-  one k left right left_bool right_bool = also k left right [] left_bool right_bool (nothing k)
+  one : {k : ℕ} {left right : Term} → IsOver k left → IsOver k right → AreOver k (equals left right ∷ [])
+  one first second = also first second nothing
 
-  -- f(x, y) and its like, where so many are named
-  xx : (k : ℕ) → 0 < k → IsBool k (applied s (x_of s) (x_of s))
-  xx k some = call k (x_of s) (x_of s) (x k some) (x k some)
+  -- x, y and z, where one, two or three are named
+  x1 : IsOver 1 (x_of s)
+  x1 = variable 1 (length s.leading) (omega arith)
 
-  xy : (k : ℕ) → 1 < k → IsBool k (applied s (x_of s) (y_of s))
-  xy k some = call k (x_of s) (y_of s) (x k (omega arith)) (y k some)
+  x2 : IsOver 2 (x_of s)
+  x2 = variable 2 (length s.leading) (omega arith)
 
-  yx : (k : ℕ) → 1 < k → IsBool k (applied s (y_of s) (x_of s))
-  yx k some = call k (y_of s) (x_of s) (y k some) (x k (omega arith))
+  y2 : IsOver 2 (y_of s)
+  y2 = variable 2 (length s.leading + 1) (omega arith)
 
-  yz : (k : ℕ) → 2 < k → IsBool k (applied s (y_of s) (z_of s))
-  yz k some = call k (y_of s) (z_of s) (y k (omega arith)) (z k some)
+  x3 : IsOver 3 (x_of s)
+  x3 = variable 3 (length s.leading) (omega arith)
 
-  xz : (k : ℕ) → 2 < k → IsBool k (applied s (x_of s) (z_of s))
-  xz k some = call k (x_of s) (z_of s) (x k (omega arith)) (z k some)
+  y3 : IsOver 3 (y_of s)
+  y3 = variable 3 (length s.leading + 1) (omega arith)
+
+  z3 : IsOver 3 (z_of s)
+  z3 = variable 3 (length s.leading + 2) (omega arith)
 
   -- What a property says is over `Bool`.
   record AreSaid (p : Prop) : Type 0 where
-    premises : AreBool (says s p).named (says s p).premises
-    alternatives : AreBool (says s p).named (says s p).alternatives
+    premises : AreOver (says s p).named (says s p).premises
+    alternatives : AreOver (says s p).named (says s p).alternatives
 
   said : (p : Prop) → AreSaid p
-  said Comm = record { premises = nothing 2; alternatives = one 2 (applied s (x_of s) (y_of s)) (applied s (y_of s) (x_of s)) (xy 2 (omega arith)) (yx 2 (omega arith)) }
-  said Assoc = record { premises = nothing 3; alternatives = one 3 (applied s (applied s (x_of s) (y_of s)) (z_of s)) (applied s (x_of s) (applied s (y_of s) (z_of s))) (call 3 (applied s (x_of s) (y_of s)) (z_of s) (xy 3 (omega arith)) (z 3 (omega arith))) (call 3 (x_of s) (applied s (y_of s) (z_of s)) (x 3 (omega arith)) (yz 3 (omega arith))) }
-  said Idem = record { premises = nothing 1; alternatives = one 1 (applied s (x_of s) (x_of s)) (x_of s) (xx 1 (omega arith)) (x 1 (omega arith)) }
-  said Sel = record { premises = nothing 2; alternatives = also 2 (applied s (x_of s) (y_of s)) (x_of s) (equals (applied s (x_of s) (y_of s)) (y_of s) ∷ []) (xy 2 (omega arith)) (x 2 (omega arith)) (one 2 (applied s (x_of s) (y_of s)) (y_of s) (xy 2 (omega arith)) (y 2 (omega arith))) }
-  said Refl = record { premises = nothing 1; alternatives = one 1 (applied s (x_of s) (x_of s)) true_term (xx 1 (omega arith)) (true_bool 1) }
-  said Irrefl = record { premises = nothing 1; alternatives = one 1 (applied s (x_of s) (x_of s)) false_term (xx 1 (omega arith)) (false_bool 1) }
-  said Sym = record { premises = one 2 (applied s (x_of s) (y_of s)) true_term (xy 2 (omega arith)) (true_bool 2); alternatives = one 2 (applied s (y_of s) (x_of s)) true_term (yx 2 (omega arith)) (true_bool 2) }
-  said Antisym = record { premises = also 2 (applied s (x_of s) (y_of s)) true_term (equals (applied s (y_of s) (x_of s)) true_term ∷ []) (xy 2 (omega arith)) (true_bool 2) (one 2 (applied s (y_of s) (x_of s)) true_term (yx 2 (omega arith)) (true_bool 2)); alternatives = one 2 (x_of s) (y_of s) (x 2 (omega arith)) (y 2 (omega arith)) }
-  said Asym = record { premises = one 2 (applied s (x_of s) (y_of s)) true_term (xy 2 (omega arith)) (true_bool 2); alternatives = one 2 (applied s (y_of s) (x_of s)) false_term (yx 2 (omega arith)) (false_bool 2) }
-  said Trans = record { premises = also 3 (applied s (x_of s) (y_of s)) true_term (equals (applied s (y_of s) (z_of s)) true_term ∷ []) (xy 3 (omega arith)) (true_bool 3) (one 3 (applied s (y_of s) (z_of s)) true_term (yz 3 (omega arith)) (true_bool 3)); alternatives = one 3 (applied s (x_of s) (z_of s)) true_term (xz 3 (omega arith)) (true_bool 3) }
-  said Conn = record { premises = one 2 (applied s (x_of s) (y_of s)) false_term (xy 2 (omega arith)) (false_bool 2); alternatives = one 2 (applied s (y_of s) (x_of s)) true_term (yx 2 (omega arith)) (true_bool 2) }
+  said Comm = record { premises = nothing; alternatives = one (call x2 y2) (call y2 x2) }
+  said Assoc = record { premises = nothing; alternatives = one (call (call x3 y3) z3) (call x3 (call y3 z3)) }
+  said Idem = record { premises = nothing; alternatives = one (call x1 x1) x1 }
+  said Sel = record { premises = nothing; alternatives = also (call x2 y2) x2 (one (call x2 y2) y2) }
+  said Refl = record { premises = nothing; alternatives = one (call x1 x1) is_true }
+  said Irrefl = record { premises = nothing; alternatives = one (call x1 x1) is_false }
+  said Sym = record { premises = one (call x2 y2) is_true; alternatives = one (call y2 x2) is_true }
+  said Antisym = record { premises = also (call x2 y2) is_true (one (call y2 x2) is_true); alternatives = one x2 y2 }
+  said Asym = record { premises = one (call x2 y2) is_true; alternatives = one (call y2 x2) is_false }
+  said Trans = record { premises = also (call x3 y3) is_true (one (call y3 z3) is_true); alternatives = one (call x3 z3) is_true }
+  said Conn = record { premises = one (call x2 y2) is_false; alternatives = one (call y2 x2) is_true }
 
   first_bool : (p : Prop) → IsBoolSequent P (first_sequent (clause_for s p D.tparams D.funs) (record { entries = [] }))
   first_bool p =
       let k : ℕ = (says s p).named in
       record {
         bools = record { each = λ i T at. live_is_bool (types_of k) i T (all_bools k) at };
-        alternatives = (said p).alternatives;
-        facts = (said p).premises;
+        alternatives = (said p).alternatives.all;
+        facts = (said p).premises.all;
         present = All-nil (λ (p : Present). IsBoolTerm P (live (types_of k)) p.term);
       }
 

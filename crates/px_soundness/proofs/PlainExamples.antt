@@ -1,11 +1,10 @@
 -- The small programs are plain, and each property that they declare has its clause.
-use Rattle.std.proofs.Common.{◌≡◌, ℕ, zero, suc, ◌<◌, ◌≤◌, List, [], ◌∷◌, length, map, Some, None, slice_get, All, refl, sym, ap, ◌∙◌, subst, arith}
+use Rattle.std.proofs.Common.{◌≡◌, ℕ, zero, suc, ◌≤◌, List, [], ◌∷◌, length, map, Some, None, slice_get, All, refl, sym, ap, ◌∙◌, subst, arith}
 use Rattle.std.proofs.lemmas.List.Elements.{All-nil, All-cons}
 use Rattle.px_terms.specs.limits.TheConstants.{CLAUSE_VARIABLES}
 use Rattle.px_terms.specs.declared.types.Ty.{Ty}
 use Rattle.px_terms.specs.declared.types.Ty.TheOpen.{Ty-F}
 use Rattle.px_terms.specs.declared.types.Ty.TheVariants as type
-use Rattle.px_terms.specs.declared.types.FnType.{FnType}
 use Rattle.px_terms.specs.Head.TheVariants.{Def}
 use Rattle.px_terms.specs.Prop.{Prop}
 use Rattle.px_terms.specs.Prop.TheVariants.{Comm, Assoc, Idem, Sel, Refl, Irrefl, Sym, Antisym, Asym, Trans, Conn}
@@ -13,13 +12,10 @@ use Rattle.px_terms.specs.declared.term.Term.{Term, out-Term}
 use Rattle.px_terms.specs.declared.term.Term.TheOpen.{Term-F}
 use Rattle.px_terms.specs.declared.term.Term.TheVariants as term
 use Rattle.px_terms.specs.declared.program.ConDef.{ConDef}
-use Rattle.px_terms.specs.declared.program.DataDef.{DataDef}
 use Rattle.px_terms.specs.declared.program.Declared.{Declared}
 use Rattle.px_terms.specs.declared.program.Declared.TheVariants as declared
 use Rattle.px_terms.specs.declared.program.Def as definition
-use Rattle.px_terms.specs.declared.program.Lemma as proposition
 use Rattle.px_terms.specs.declared.program.Program.{Program}
-use Rattle.px_terms.specs.declared.program.ReplicaDef.{ReplicaDef}
 use Rattle.px_terms.specs.declared.sequent.Context.{Context}
 use Rattle.px_terms.specs.Types.{ty_instance, tys_instance}
 use Rattle.px_terms.specs.TreeEquations.{ty_size-Con, ty_depth-Con, ty_instance-Con}
@@ -28,12 +24,12 @@ use Rattle.px_terms.specs.Typing.{Place, in_body, IsTypeLayer, IsType, IsSmallMe
 use Rattle.px_terms.specs.Typing as typing
 use Rattle.px_terms.specs.Clauses.{HasResult, IsClauseOf}
 use Rattle.px_terms.specs.Clauses as clauses
-use Rattle.px_terms.specs.TypedPrograms.{IsWritten, IsFnType, IsTypedCon, IsTypedData, HasSignature, IsTypedDef, IsTypedProperty, IsTypedLemma, IsTypedReplica}
+use Rattle.px_terms.specs.TypedPrograms.{IsWritten, IsFnType, IsTypedCon, IsTypedData, HasSignature, IsTypedDef, IsTypedProperty, IsTypedReplica}
 use Rattle.px_terms.specs.Obligations.{IsObligation}
 use Rattle.px_terms.specs.Obligations as obligations
 use Rattle.px_terms.specs.Plain.{IsPlainLayer, IsPlain, IsPlainDef, IsPlainProgram}
 use Rattle.px_terms.specs.Plain as plainly
-use Rattle.px_soundness.specs.Examples.{bool_function, bool_program, bool_subject, bool_clause, or_body, or_program, left_program, constant_program}
+use Rattle.px_soundness.specs.Examples.{bool_function, bool_program, bool_subject, bool_clause, or_body}
 use Rattle.px_soundness.specs.ExampleLaws.{ExamplesArePlain}
 use Rattle.px_soundness.proofs.BoolTerms.{some_is, nothing_is_some}
 use Rattle.px_soundness.proofs.OneClause.{IsOwnSubject}
