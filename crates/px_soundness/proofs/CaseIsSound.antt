@@ -23,7 +23,7 @@ use Rattle.px_terms.specs.Plain.{IsPlainProgram}
 use Rattle.px_soundness.specs.Validity.{FitVariables, none, live, gone, PresentSizes, IsValidAt}
 use Rattle.px_soundness.proofs.BoolTerms.{bool_datatype}
 use Rattle.px_soundness.proofs.Existence.{bool_values}
-use Rattle.px_soundness.proofs.TypedRows.{IsBoolSequent}
+use Rattle.px_soundness.proofs.BoolRows.{IsBoolSequent}
 use Rattle.px_soundness.proofs.SidesHaveValues.{alternative_sides}
 use Rattle.px_soundness.proofs.Assumed.{IsSound}
 use Rattle.px_soundness.proofs.Truths.{all_put_on, some_put_back, sizes_put}

@@ -1,5 +1,5 @@
 -- Small programs: true properties hold, and false ones do not.
-use Rattle.std.proofs.Common.{◌≡◌, ◌⊎◌, inl, inr, ℕ, zero, suc, ◌<◌, List, [], ◌∷◌, ◌++◌, Bool, true, false, Some, None, refl, sym, ap, ◌∙◌, slice_get, option_and_then, subst, arith}
+use Rattle.std.proofs.Common.{◌≡◌, ◌⊎◌, inl, inr, ℕ, zero, suc, ◌<◌, List, [], ◌∷◌, Bool, true, false, Some, None, refl, sym, ap, ◌∙◌, slice_get, option_and_then, subst, arith}
 use Rattle.px_terms.specs.declared.types.Ty.{Ty, out-Ty}
 use Rattle.px_terms.specs.declared.types.Ty.TheOpen.{Ty-F}
 use Rattle.px_terms.specs.declared.types.Ty.TheVariants as type
@@ -15,11 +15,8 @@ use Rattle.px_terms.specs.declared.term.Value.TheOpen.{Value-F}
 use Rattle.px_terms.specs.declared.term.Value.TheVariants as value
 use Rattle.px_terms.specs.declared.clause.Equation.{Equation}
 use Rattle.px_terms.specs.declared.clause.Clause.{Clause}
-use Rattle.px_terms.specs.declared.program.Declared.TheVariants as declared
 use Rattle.px_terms.specs.declared.program.ConDef.{ConDef}
 use Rattle.px_terms.specs.declared.program.DataDef.{DataDef}
-use Rattle.px_terms.specs.declared.program.Declared.{Declared}
-use Rattle.px_terms.specs.declared.program.Def as definition
 use Rattle.px_terms.specs.declared.program.Program.{Program}
 use Rattle.px_terms.specs.Types.{ty_instance, tys_instance}
 use Rattle.px_terms.specs.TreeEquations.{ty_instance-Con}
@@ -28,17 +25,17 @@ use Rattle.px_terms.specs.Values.{IsInLayer, AreIn, IsIn}
 use Rattle.px_terms.specs.Values as values
 use Rattle.px_terms.specs.Meaning.{truth, chosen, MeansOf, Means, SameValue, free, con, choose, call, none, more, defined}
 use Rattle.px_terms.specs.Typing as typing
-use Rattle.px_terms.specs.Clauses.{own_call, Shape, IsClause, comm_clause, idem_clause}
-use Rattle.px_terms.specs.Clauses as clauses
+use Rattle.px_terms.specs.Clauses.{applied}
 use Rattle.px_terms.specs.Holding.{IsTrueAt, SomeIsTrueAt, HoldsIn, Holds, here, later}
 use Rattle.px_terms.specs.Holding as holding
-use Rattle.px_terms.specs.Obligations.{IsObligation, IsDeclaredClause, AllHold}
-use Rattle.px_terms.specs.Obligations as obligations
+use Rattle.px_terms.specs.Obligations.{IsObligation}
 use Rattle.px_soundness.specs.Validity as fitting
-use Rattle.px_soundness.specs.Examples.{bool_function, bool_program, bool_shape, bool_comm, bool_idem, or_body, or_program, left_program, constant_program, false_is_true}
+use Rattle.px_soundness.specs.Examples.{bool_program, bool_subject, bool_comm, bool_idem, or_body, or_program, left_program, constant_program, false_is_true}
 use Rattle.px_soundness.specs.ExampleLaws.{ExamplesHoldOrFail, BoolHasTwoValues, OrIsCommutative, OrIsIdempotent, LeftIsNotCommutative, ConstantIsNotIdempotent, FalseIsNotTrue}
 use Rattle.px_soundness.proofs.Existence.{IsTruth, truth_value, truth_of}
-use Rattle.px_soundness.proofs.BoolTerms.{some_is, nothing_is_some}
+use Rattle.px_soundness.proofs.BoolTerms.{nothing_is_some}
+use Rattle.px_soundness.proofs.OneClause.{one_clause}
+use Rattle.px_soundness.proofs.PlainExamples.{bool_obligation}
 use Rattle.px_soundness.proofs.Unique.{unique}
 
 -- The value is `truth` of one of the two.
@@ -138,7 +135,7 @@ constructor_means : (P : Program) (types : List Ty) (funs : List Fun) (rho : Lis
 constructor_means P types funs rho k = layer_means P types funs rho (term.Con 0 k [] []) (Term-F.Con 0 k [] []) (truth_value k) 0 (term.outs-Con 0 k [] []) (con {vs = []} none refl)
 
 -- a call of the program's function means what the function's body means at the values of its arguments
-call_means : (body : Term) (props : List Prop) (types : List Ty) (funs : List Fun) (rho : List Value) (i j : ℕ) (u w v : Value) → slice_get rho i ≡ Some u → slice_get rho j ≡ Some w → Means (bool_program body props) [] [] (u ∷ w ∷ []) body v 0 → Means (bool_program body props) types funs rho (own_call 0 (bool_function body) (i ∷ j ∷ [])) v 1
+call_means : (body : Term) (props : List Prop) (types : List Ty) (funs : List Fun) (rho : List Value) (i j : ℕ) (u w v : Value) → slice_get rho i ≡ Some u → slice_get rho j ≡ Some w → Means (bool_program body props) [] [] (u ∷ w ∷ []) body v 0 → Means (bool_program body props) types funs rho (applied bool_subject (term.Free i) (term.Free j)) v 1
 call_means body props types funs rho i j u w v first second inside =
     let P : Program = bool_program body props in
     layer_means P types funs rho (term.Call (record { head = Def 0; types = [] }) [] (term.Free i ∷ term.Free j ∷ [])) (Term-F.Call (record { head = Def 0; types = [] }) [] (term.Free i ∷ term.Free j ∷ [])) v 1 (term.outs-Call (record { head = Def 0; types = [] }) [] (term.Free i ∷ term.Free j ∷ [])) (call {g = record { head = Def 0; types = [] }} {gs = []} {vs = u ∷ w ∷ []} {a = 0} {b = 1} (more {a = 0} {b = 0} (variable_means P types funs rho i u first) (more {a = 0} {b = 0} (variable_means P types funs rho j w second) none refl) refl) refl tt (defined {body = body} {b = 0} refl inside refl) refl)
@@ -168,43 +165,43 @@ or_means props true b =
 abbrev or_props : List Prop
 or_props = prop.Comm ∷ prop.Idem ∷ []
 
-or_comm_at : (types : List Ty) (funs : List Fun) (a b : Bool) → SameValue or_program types funs (truth a ∷ truth b ∷ []) (own_call 0 (bool_function or_body) (0 ∷ 1 ∷ [])) (own_call 0 (bool_function or_body) (1 ∷ 0 ∷ []))
+or_comm_at : (types : List Ty) (funs : List Fun) (a b : Bool) → SameValue or_program types funs (truth a ∷ truth b ∷ []) (applied bool_subject (term.Free 0) (term.Free 1)) (applied bool_subject (term.Free 1) (term.Free 0))
 or_comm_at types funs a b =
     let rho : List Value = truth a ∷ truth b ∷ [] in
     let other = subst (λ (c : Bool). Means or_program [] [] (truth b ∷ truth a ∷ []) or_body (truth c) 0) (either_either b a) (or_means or_props b a) in
     (truth (either a b), 1, 1, call_means or_body or_props types funs rho 0 1 (truth a) (truth b) (truth (either a b)) refl refl (or_means or_props a b), call_means or_body or_props types funs rho 1 0 (truth b) (truth a) (truth (either a b)) refl refl other)
 
-or_idem_at : (types : List Ty) (funs : List Fun) (a : Bool) → SameValue or_program types funs (truth a ∷ []) (own_call 0 (bool_function or_body) (0 ∷ 0 ∷ [])) (term.Free 0)
+or_idem_at : (types : List Ty) (funs : List Fun) (a : Bool) → SameValue or_program types funs (truth a ∷ []) (applied bool_subject (term.Free 0) (term.Free 0)) (term.Free 0)
 or_idem_at types funs a =
     let rho : List Value = truth a ∷ [] in
     let one = subst (λ (c : Bool). Means or_program [] [] (truth a ∷ truth a ∷ []) or_body (truth c) 0) (either_same a) (or_means or_props a a) in
     (truth a, 1, 0, call_means or_body or_props types funs rho 0 0 (truth a) (truth a) (truth a) refl refl one, variable_means or_program types funs rho 0 (truth a) refl)
 
-or_comm_some : (types : List Ty) (funs : List Fun) (rho : List Value) → TwoTruths rho → SomeIsTrueAt or_program types funs rho (bool_comm or_body).alternatives
-or_comm_some types funs rho two = subst (λ (rho : List Value). SomeIsTrueAt or_program types funs rho (bool_comm or_body).alternatives) (sym two.is) (here (or_comm_at types funs two.a two.b))
+or_comm_some : (types : List Ty) (funs : List Fun) (rho : List Value) → TwoTruths rho → SomeIsTrueAt or_program types funs rho bool_comm.alternatives
+or_comm_some types funs rho two = subst (λ (rho : List Value). SomeIsTrueAt or_program types funs rho bool_comm.alternatives) (sym two.is) (here (or_comm_at types funs two.a two.b))
 
-or_idem_some : (types : List Ty) (funs : List Fun) (rho : List Value) → OneTruth rho → SomeIsTrueAt or_program types funs rho (bool_idem or_body).alternatives
-or_idem_some types funs rho one = subst (λ (rho : List Value). SomeIsTrueAt or_program types funs rho (bool_idem or_body).alternatives) (sym one.is) (here (or_idem_at types funs one.a))
+or_idem_some : (types : List Ty) (funs : List Fun) (rho : List Value) → OneTruth rho → SomeIsTrueAt or_program types funs rho bool_idem.alternatives
+or_idem_some types funs rho one = subst (λ (rho : List Value). SomeIsTrueAt or_program types funs rho bool_idem.alternatives) (sym one.is) (here (or_idem_at types funs one.a))
 
 holds_if_in_itself : (P : Program) (clause : Clause) → HoldsIn P clause → Holds P clause
 holds_if_in_itself P clause holds = record { in_each = λ Q extends. subst (λ (Q : Program). HoldsIn Q clause) (sym extends.same) holds }
 
-or_comm_holds : HoldsIn or_program (bool_comm or_body)
+or_comm_holds : HoldsIn or_program bool_comm
 or_comm_holds = record { at = λ types count are funs fit rho are_in premises. or_comm_some types funs rho (both_truths or_program refl types rho are_in) }
 
-or_idem_holds : HoldsIn or_program (bool_idem or_body)
+or_idem_holds : HoldsIn or_program bool_idem
 or_idem_holds = record { at = λ types count are funs fit rho are_in premises. or_idem_some types funs rho (one_truth or_program refl types rho are_in) }
 
 pub or_is_commutative : OrIsCommutative
 or_is_commutative = record {
-  declared = record { declared = declared.Property 0 prop.Comm; number = refl; says = obligations.of_property (clauses.comm {d = bool_function or_body} refl bool_shape refl refl) };
-  holds = holds_if_in_itself or_program (bool_comm or_body) or_comm_holds;
+  declared = bool_obligation or_body or_props 0 prop.Comm refl;
+  holds = holds_if_in_itself or_program bool_comm or_comm_holds;
 }
 
 pub or_is_idempotent : OrIsIdempotent
 or_is_idempotent = record {
-  declared = record { declared = declared.Property 0 prop.Idem; number = refl; says = obligations.of_property (clauses.idem {d = bool_function or_body} refl bool_shape refl refl refl) };
-  holds = holds_if_in_itself or_program (bool_idem or_body) or_idem_holds;
+  declared = bool_obligation or_body or_props 1 prop.Idem refl;
+  holds = holds_if_in_itself or_program bool_idem or_idem_holds;
 }
 
 module _ (P : Program) (types : List Ty) (funs : List Fun) (rho : List Value) where
@@ -227,41 +224,39 @@ module _ (P : Program) (types : List Ty) (funs : List Fun) (rho : List Value) wh
 truths_in : (P : Program) → P.datatypes ≡ bool_data ∷ [] → (types : List Ty) (b : Bool) (others : List Ty) (vs : List Value) → AreIn P others vs → AreIn P (ty_instance types bool_type ∷ others) (truth b ∷ vs)
 truths_in P data_is types b others vs rest = values.more (subst (λ (T : Ty). IsIn P T (truth b)) (sym (ty_instance-Con types 0 [])) (truth_is_in P data_is b)) rest
 
-left_comm_fails : Holds left_program (bool_comm (term.Free 0)) → ⊥
+left_comm_fails : Holds left_program bool_comm → ⊥
 left_comm_fails holds =
     let P : Program = left_program in
     let props : List Prop = prop.Comm ∷ [] in
-    let call_of = own_call 0 (bool_function (term.Free 0)) in
     let rho : List Value = truth true ∷ truth false ∷ [] in
     let are_in : AreIn P (tys_instance [] (bool_type ∷ bool_type ∷ [])) rho = truths_in P refl [] true (tys_instance [] (bool_type ∷ [])) (truth false ∷ []) (truths_in P refl [] false [] [] values.none) in
     let some = (holds.in_each P (record { same = refl })).at [] refl typing.none [] holding.none rho are_in tt in
-    let same = only_one P [] [] rho (record { left = call_of (0 ∷ 1 ∷ []); right = call_of (1 ∷ 0 ∷ []) }) (bool_comm (term.Free 0)).alternatives refl some in
+    let same = only_one P [] [] rho (record { left = applied bool_subject (term.Free 0) (term.Free 1); right = applied bool_subject (term.Free 1) (term.Free 0) }) bool_comm.alternatives refl some in
     let left = call_means (term.Free 0) props [] [] rho 0 1 (truth true) (truth false) (truth true) refl refl (variable_means P [] [] (truth true ∷ truth false ∷ []) 0 (truth true) refl) in
     let right = call_means (term.Free 0) props [] [] rho 1 0 (truth false) (truth true) (truth false) refl refl (variable_means P [] [] (truth false ∷ truth true ∷ []) 0 (truth false) refl) in
-    not_same (sym (same_values P [] [] rho (call_of (0 ∷ 1 ∷ [])) (call_of (1 ∷ 0 ∷ [])) (truth true) (truth false) 1 1 left right same))
+    not_same (sym (same_values P [] [] rho (applied bool_subject (term.Free 0) (term.Free 1)) (applied bool_subject (term.Free 1) (term.Free 0)) (truth true) (truth false) 1 1 left right same))
 
-constant_idem_fails : Holds constant_program (bool_idem true_term) → ⊥
+constant_idem_fails : Holds constant_program bool_idem → ⊥
 constant_idem_fails holds =
     let P : Program = constant_program in
     let props : List Prop = prop.Idem ∷ [] in
-    let call_of = own_call 0 (bool_function true_term) in
     let rho : List Value = truth false ∷ [] in
     let are_in : AreIn P (tys_instance [] (bool_type ∷ [])) rho = truths_in P refl [] false [] [] values.none in
     let some = (holds.in_each P (record { same = refl })).at [] refl typing.none [] holding.none rho are_in tt in
-    let same = only_one P [] [] rho (record { left = call_of (0 ∷ 0 ∷ []); right = term.Free 0 }) (bool_idem true_term).alternatives refl some in
+    let same = only_one P [] [] rho (record { left = applied bool_subject (term.Free 0) (term.Free 0); right = term.Free 0 }) bool_idem.alternatives refl some in
     let left = call_means true_term props [] [] rho 0 0 (truth false) (truth false) (truth true) refl refl (constructor_means P [] [] (truth false ∷ truth false ∷ []) 1) in
     let right = variable_means P [] [] rho 0 (truth false) refl in
-    not_same (sym (same_values P [] [] rho (call_of (0 ∷ 0 ∷ [])) (term.Free 0) (truth true) (truth false) 1 0 left right same))
+    not_same (sym (same_values P [] [] rho (applied bool_subject (term.Free 0) (term.Free 0)) (term.Free 0) (truth true) (truth false) 1 0 left right same))
 
 pub left_is_not_commutative : LeftIsNotCommutative
 left_is_not_commutative = record {
-  declared = record { declared = declared.Property 0 prop.Comm; number = refl; says = obligations.of_property (clauses.comm {d = bool_function (term.Free 0)} refl bool_shape refl refl) };
+  declared = bool_obligation (term.Free 0) (prop.Comm ∷ []) 0 prop.Comm refl;
   fails = left_comm_fails;
 }
 
 pub constant_is_not_idempotent : ConstantIsNotIdempotent
 constant_is_not_idempotent = record {
-  declared = record { declared = declared.Property 0 prop.Idem; number = refl; says = obligations.of_property (clauses.idem {d = bool_function true_term} refl bool_shape refl refl refl) };
+  declared = bool_obligation true_term (prop.Idem ∷ []) 0 prop.Idem refl;
   fails = constant_idem_fails;
 }
 
@@ -271,63 +266,17 @@ false_is_not_true Q valid =
     let same = only_one Q [] [] [] (record { left = false_term; right = true_term }) false_is_true.alternatives refl some in
     not_same (same_values Q [] [] [] false_term true_term (truth false) (truth true) 0 0 (constructor_means Q [] [] [] 0) (constructor_means Q [] [] [] 1) same)
 
-no_rest : (xs : List Ty) (last : Ty) → bool_type ∷ [] ≡ xs ++ last ∷ last ∷ [] → ⊥
-no_rest [] last e = let wrong : ⊥ = cc in wrong
-no_rest (x ∷ []) last e = let wrong : ⊥ = cc in wrong
-no_rest (x ∷ y ∷ xs) last e = let wrong : ⊥ = cc in wrong
-
-parts_are : (leading : List Ty) (last : Ty) → bool_type ∷ bool_type ∷ [] ≡ leading ++ last ∷ last ∷ [] → (leading ≡ []) × (last ≡ bool_type)
-parts_are [] last e = (refl, cc)
-parts_are (x ∷ xs) last e = let rest : bool_type ∷ [] ≡ xs ++ last ∷ last ∷ [] = cc in absurd (no_rest xs last rest)
-
-shape_is : (s : Shape) → bool_type ∷ bool_type ∷ [] ≡ s.leading ++ s.last ∷ s.last ∷ [] → s ≡ bool_shape
-shape_is s e =
-    let parts = parts_are s.leading s.last e in
-    ap (λ (leading : List Ty). record { leading = leading; last = s.last }) parts.0 ∙ ap (λ (last : Ty). record { leading = []; last = last }) parts.1
-
-module _ (body : Term) (props : List Prop) where
-  the_shape : (n : ℕ) (d : definition.Def) (s : Shape) → slice_get (bool_program body props).defs n ≡ Some d → d.params ≡ s.leading ++ s.last ∷ s.last ∷ [] → (n ≡ 0) × (d ≡ bool_function body) × (s ≡ bool_shape)
-  the_shape zero d s found shape =
-      let d_is : d ≡ bool_function body = some_is d (bool_function body) (Some d) refl (sym found) in
-      (refl, d_is, shape_is s (ap (λ (d : definition.Def). d.params) (sym d_is) ∙ shape))
-  the_shape (suc n) d s found shape = absurd (nothing_is_some d None refl found)
-
-  comm_is : (n : ℕ) (p : Prop) (clause : Clause) → p ≡ prop.Comm → IsClause (bool_program body props) n p clause → clause ≡ bool_comm body
-  comm_is n _ clause e (clauses.comm {d = d} found s shape is) =
-      let are = the_shape n d s found shape in
-      is ∙ ap (λ (n : ℕ). comm_clause n d s) are.0 ∙ ap (λ (d : definition.Def). comm_clause 0 d s) are.1 ∙ ap (λ (s : Shape). comm_clause 0 (bool_function body) s) are.2
-  comm_is n _ clause e (clauses.idem found s shape result is) = let wrong : ⊥ = cc in absurd wrong
-
-  idem_is : (n : ℕ) (p : Prop) (clause : Clause) → p ≡ prop.Idem → IsClause (bool_program body props) n p clause → clause ≡ bool_idem body
-  idem_is n _ clause e (clauses.idem {d = d} found s shape result is) =
-      let are = the_shape n d s found shape in
-      is ∙ ap (λ (n : ℕ). idem_clause n d s) are.0 ∙ ap (λ (d : definition.Def). idem_clause 0 d s) are.1 ∙ ap (λ (s : Shape). idem_clause 0 (bool_function body) s) are.2
-  idem_is n _ clause e (clauses.comm found s shape is) = let wrong : ⊥ = cc in absurd wrong
-
-  -- the declared property of a number has only one clause
-  declared_comm : (which : Declared) (clause : Clause) → which ≡ declared.Property 0 prop.Comm → IsDeclaredClause (bool_program body props) which clause → clause ≡ bool_comm body
-  declared_comm _ clause e (obligations.of_property {d = n} {p = p} is) = let same : p ≡ prop.Comm = cc in comm_is n p clause same is
-  declared_comm _ clause e (obligations.of_lemma found is) = let wrong : ⊥ = cc in absurd wrong
-
-  declared_idem : (which : Declared) (clause : Clause) → which ≡ declared.Property 0 prop.Idem → IsDeclaredClause (bool_program body props) which clause → clause ≡ bool_idem body
-  declared_idem _ clause e (obligations.of_property {d = n} {p = p} is) = let same : p ≡ prop.Idem = cc in idem_is n p clause same is
-  declared_idem _ clause e (obligations.of_lemma found is) = let wrong : ⊥ = cc in absurd wrong
-
 same_holds : (P : Program) (clause other : Clause) → clause ≡ other → Holds P other → Holds P clause
 same_holds P clause other e holds = subst (λ (clause : Clause). Holds P clause) (sym e) holds
 
-or_obligation_holds : (n : ℕ) (which : Declared) (clause : Clause) → slice_get or_program.declared n ≡ Some which → IsDeclaredClause or_program which clause → Holds or_program clause
-or_obligation_holds zero which clause at says =
-    let which_is : which ≡ declared.Property 0 prop.Comm = some_is which (declared.Property 0 prop.Comm) (Some which) refl (sym at) in
-    same_holds or_program clause (bool_comm or_body) (declared_comm or_body or_props which clause which_is says) or_is_commutative.holds
-or_obligation_holds (suc zero) which clause at says =
-    let which_is : which ≡ declared.Property 0 prop.Idem = some_is which (declared.Property 0 prop.Idem) (Some which) refl (sym at) in
-    same_holds or_program clause (bool_idem or_body) (declared_idem or_body or_props which clause which_is says) or_is_idempotent.holds
-or_obligation_holds (suc (suc n)) which clause at says = absurd (nothing_is_some which None refl at)
+or_obligation_holds : (n : ℕ) (clause : Clause) → IsObligation or_program n clause → Holds or_program clause
+or_obligation_holds zero clause obligation = same_holds or_program clause bool_comm (one_clause or_program 0 clause bool_comm obligation or_is_commutative.declared) or_is_commutative.holds
+or_obligation_holds (suc zero) clause obligation = same_holds or_program clause bool_idem (one_clause or_program 1 clause bool_idem obligation or_is_idempotent.declared) or_is_idempotent.holds
+or_obligation_holds (suc (suc n)) clause obligation = absurd (nothing_is_some obligation.declared None refl obligation.number)
 
 pub examples_hold_or_fail : ExamplesHoldOrFail
 examples_hold_or_fail = record {
-  or = record { each = λ n clause obligation. or_obligation_holds n obligation.declared clause obligation.number obligation.says };
-  left = (λ all. left_is_not_commutative.fails (all.each 0 (bool_comm (term.Free 0)) left_is_not_commutative.declared));
-  constant = (λ all. constant_is_not_idempotent.fails (all.each 0 (bool_idem true_term) constant_is_not_idempotent.declared));
+  or = record { each = or_obligation_holds };
+  left = (λ all. left_is_not_commutative.fails (all.each 0 bool_comm left_is_not_commutative.declared));
+  constant = (λ all. constant_is_not_idempotent.fails (all.each 0 bool_idem constant_is_not_idempotent.declared));
 }

@@ -1,4 +1,4 @@
--- In a plain program each typed term has a value of its type at all fitting values.
+-- In a plain program each term over `Bool` has a value at all fitting values.
 use Rattle.std.proofs.Common.{◌≡◌, ◌⊎◌, inl, inr, ℕ, zero, suc, ◌+◌, ◌<◌, List, [], ◌∷◌, length, true, false, Option, Some, None, option_map, refl, sym, ap, ◌∙◌, slice_get, subst, arith}
 use Rattle.std.proofs.lemmas.List.{length-map}
 use Rattle.px_terms.specs.declared.types.Ty.{Ty, out-Ty}
@@ -12,23 +12,22 @@ use Rattle.px_terms.specs.declared.term.Value.{Value, out-Value, roll-Value}
 use Rattle.px_terms.specs.declared.term.Value.TheViews.{roll-out-Value}
 use Rattle.px_terms.specs.declared.term.Value.TheVariants as value
 use Rattle.px_terms.specs.declared.term.Value.TheOpen.{Value-F}
-use Rattle.px_terms.specs.declared.program.DataDef.{DataDef}
 use Rattle.px_terms.specs.declared.program.Def as definition
 use Rattle.px_terms.specs.declared.program.Program.{Program}
-use Rattle.px_terms.specs.declared.sequent.Context.{Context}
 use Rattle.px_terms.specs.Types.{ty_instance, tys_instance}
 use Rattle.px_terms.specs.TreeEquations.{ty_instance-Con}
-use Rattle.px_terms.specs.Programs.{bool_type, bool_data, constructor_at}
+use Rattle.px_terms.specs.Programs.{bool_type, bool_data}
 use Rattle.px_terms.specs.Values.{IsInLayer, AreIn, IsIn}
 use Rattle.px_terms.specs.Values as values
 use Rattle.px_terms.specs.Meaning.{truth, chosen, MeansOf, MeanAll, Gives, Means, free, con, choose, call, none, more, defined}
-use Rattle.px_terms.specs.Typing.{HasType, live}
+use Rattle.px_terms.specs.Typing.{in_body, live}
+use Rattle.px_terms.specs.TypedPrograms.{own_context}
 use Rattle.px_terms.specs.TypedSequents.{HasBoolVariables}
 use Rattle.px_soundness.specs.Validity.{FitVariables}
 use Rattle.px_soundness.specs.Validity as fitting
-use Rattle.px_terms.specs.Plain.{IsPlainProgram, IsPlainDef, IsPlainLayer, ArePlain, AreBools}
+use Rattle.px_terms.specs.Plain.{IsPlainProgram, IsPlainDef, AreBools}
 use Rattle.px_terms.specs.Plain as plainly
-use Rattle.px_soundness.proofs.BoolTerms.{IsBoolLayer, AreBoolTerms, bool_variable, bool_truth, bool_match, bool_call, no_bool, more_bools, some_is, nothing_is_some, BoolConstructor, bool_constructor, bool_term}
+use Rattle.px_soundness.proofs.BoolTerms.{IsBoolLayer, AreBoolTerms, IsBoolTerm, bool_variable, bool_truth, bool_match, bool_call, no_bool, more_bools, some_is, nothing_is_some, BoolConstructor, bool_constructor, bool_term}
 
 -- constructor k of `Bool`, as a value
 abbrev pub truth_value : ℕ → Value
@@ -186,57 +185,18 @@ module _ (P : Program) (calls : Type 0) (give : calls → GiveTruths P) (types :
     arm_valued _ zero arm (more_bools {t = t} first others) at = same_item t arm at (valued (out-Term t) first)
     arm_valued _ (suc k) arm (more_bools {ts = ts} first others) at = arm_valued ts k arm others at
 
--- what a plain layer of type `Bool` rests on
-abbrev BoolParts : Program → List (Option Ty) → Type 0 → Term-F Term → Type 0
-BoolParts P vars calls (Term-F.Free n) = slice_get vars n ≡ Some (Some bool_type)
-BoolParts P vars calls (Term-F.Con d k types fields) = k < 2
-BoolParts P vars calls (Term-F.Match on d types arms) = IsBoolLayer P vars calls (out-Term on) × AreBoolTerms P vars calls arms × (length arms ≡ 2)
-BoolParts P vars calls _ = Unit {0}
-
-bool_parts : (P : Program) (vars : List (Option Ty)) (calls : Type 0) (y : Term-F Term) → IsBoolLayer P vars calls y → BoolParts P vars calls y
-bool_parts P vars calls _ (bool_variable at) = at
-bool_parts P vars calls _ (bool_truth small) = small
-bool_parts P vars calls _ (bool_match on arms two) = (on, arms, two)
-bool_parts P vars calls _ (bool_call there found args long) = tt
-
-abbrev EachBool : Program → List (Option Ty) → Type 0 → List Term → Type 0
-EachBool P vars calls [] = Unit {0}
-EachBool P vars calls (t ∷ ts) = IsBoolLayer P vars calls (out-Term t) × AreBoolTerms P vars calls ts
-
-each_bool : (P : Program) (vars : List (Option Ty)) (calls : Type 0) (ts : List Term) → AreBoolTerms P vars calls ts → EachBool P vars calls ts
-each_bool P vars calls _ no_bool = tt
-each_bool P vars calls _ (more_bools first others) = (first, others)
-
-module _ (P : Program) (vars : List (Option Ty)) (calls none_called : Type 0) where
-  mutual
-    -- a plain term calls nothing
-    uncalled : (y : Term-F Term) → IsPlainLayer y → BoolParts P vars calls y → IsBoolLayer P vars none_called y
-    uncalled _ plainly.variable parts = bool_variable parts
-    uncalled _ plainly.truth parts = bool_truth parts
-    uncalled _ (plainly.choice {on = on} {arms = arms} on_plain arms_plain) parts = bool_match (uncalled (out-Term on) on_plain (bool_parts P vars calls (out-Term on) parts.0)) (all_uncalled arms arms_plain (each_bool P vars calls arms parts.1)) parts.2
-
-    all_uncalled : (ts : List Term) → ArePlain ts → EachBool P vars calls ts → AreBoolTerms P vars none_called ts
-    all_uncalled _ plainly.none parts = no_bool
-    all_uncalled _ (plainly.more {t = t} {ts = ts} first others) parts = more_bools (uncalled (out-Term t) first (bool_parts P vars calls (out-Term t) parts.0)) (all_uncalled ts others (each_bool P vars calls ts parts.1))
-
 bools_at : (types : List Ty) (n : ℕ) (T : Ty) → AreBools types → slice_get (live types) n ≡ Some (Some T) → T ≡ bool_type
 bools_at _ n T plainly.none at = absurd (nothing_is_some (Some T) None refl at)
 bools_at _ zero T (plainly.more others) at = let e : T ≡ bool_type = cc in e
 bools_at _ (suc n) T (plainly.more {types = types} others) at = bools_at types n T others at
 
--- the context of a definition's body
-abbrev pub body_context : definition.Def → Context
-body_context D = record { tparams = D.tparams; funs = D.funs; vars = live D.params }
-
-pub body_bools : (P : Program) → IsPlainProgram P → (n : ℕ) (D : definition.Def) → slice_get P.defs n ≡ Some D → HasBoolVariables (body_context D)
+-- the variables of a body are of type `Bool`
+body_bools : (P : Program) → IsPlainProgram P → (n : ℕ) (D : definition.Def) → slice_get P.defs n ≡ Some D → HasBoolVariables (own_context D)
 body_bools P plain n D found = let d : IsPlainDef D = plain.plain n D found in record { each = λ m T at. bools_at D.params m T d.params at }
 
--- the body of a plain definition is a term over `Bool`
+-- the body of a plain definition is a term over `Bool`, without calls
 pub body_bool : (P : Program) → IsPlainProgram P → (n : ℕ) (D : definition.Def) → slice_get P.defs n ≡ Some D → IsBoolLayer P (live D.params) ⊥ (out-Term D.body)
-body_bool P plain n D found =
-    let typed = bool_term P plain (body_context D) (body_bools P plain n D found) D.body D.result (plain.typed.bodies n D found) in
-    let d : IsPlainDef D = plain.plain n D found in
-    uncalled P (live D.params) (Unit {0}) ⊥ (out-Term D.body) d.body (bool_parts P (live D.params) (Unit {0}) (out-Term D.body) typed.term)
+body_bool P plain n D found = (bool_term P plain.datatypes (in_body n) (own_context D) (body_bools P plain n D found) ⊥ D.body D.result (plain.plain n D found).body (plain.typed.defs n D found).body).term
 
 pub give_truths : (P : Program) → IsPlainProgram P → GiveTruths P
 give_truths P plain = record { each = λ n D vs found truths long. given n D vs found truths long }
@@ -247,19 +207,8 @@ give_truths P plain = record { each = λ n D vs found truths long. given n D vs 
         let v = valued P ⊥ (λ wrong. absurd wrong) [] [] vs (live D.params) fits (out-Term D.body) (body_bool P plain n D found) in
         record { k = v.k; small = v.small; count = v.count + 1; gives = defined (ap (λ o. option_map (λ (d : definition.Def). d.body) o) found) v.means refl }
 
-pub small_constructor : (P : Program) → P.datatypes ≡ bool_data ∷ [] → (k : ℕ) → k < 2 → constructor_at P 0 k ≡ Some (record { fields = [] })
-small_constructor P data_is zero small = ap (λ (datatypes : List DataDef). constructor_at (record P { datatypes = datatypes }) 0 0) data_is
-small_constructor P data_is (suc zero) small = ap (λ (datatypes : List DataDef). constructor_at (record P { datatypes = datatypes }) 0 1) data_is
-small_constructor P data_is (suc (suc k)) small = let wrong : ⊥ = omega (arith, small) in absurd wrong
-
-pub truth_is_in : (P : Program) → P.datatypes ≡ bool_data ∷ [] → (T : Ty) (k : ℕ) → k < 2 → T ≡ bool_type → IsIn P T (truth_value k)
-truth_is_in P data_is T k small T_is =
-    let layer : Ty-F.Con 0 [] ≡ out-Ty T = sym (type.outs-Con 0 []) ∙ ap out-Ty (sym T_is) in
-    subst (λ y. IsInLayer P y (out-Value (truth_value k))) layer (subst (λ z. IsInLayer P (Ty-F.Con 0 []) z) (sym (value.outs-Con 0 k [])) (values.con (small_constructor P data_is k small) values.none))
-
--- in a plain program a typed term has a value of its type at all fitting values
-pub has_value : (P : Program) → IsPlainProgram P → (context : Context) (types : List Ty) (funs : List Fun) (rho : List Value) → FitVariables P types context.vars rho → HasBoolVariables context → (t : Term) (T : Ty) → HasType P context t T → (v : Value) × (c : ℕ) × Means P types funs rho t v c × IsIn P T v
-has_value P plain context types funs rho fit bools t T typed =
-    let b = bool_term P plain context bools t T typed in
-    let v = valued P (Unit {0}) (λ here. give_truths P plain) types funs rho context.vars (λ n at. fits_truth P plain.datatypes types context.vars rho n fit at) (out-Term t) b.term in
-    (truth_value v.k, v.count, v.means, truth_is_in P plain.datatypes T v.k v.small b.type_is)
+-- in a plain program a term over `Bool` has a value at all fitting values
+pub has_value : (P : Program) → IsPlainProgram P → (types : List Ty) (funs : List Fun) (vars : List (Option Ty)) (rho : List Value) → FitVariables P types vars rho → (t : Term) → IsBoolTerm P vars t → (v : Value) × (c : ℕ) × Means P types funs rho t v c
+has_value P plain types funs vars rho fit t is_bool =
+    let v = valued P (Unit {0}) (λ here. give_truths P plain) types funs rho vars (λ n at. fits_truth P plain.datatypes types vars rho n fit at) (out-Term t) is_bool in
+    (truth_value v.k, v.count, v.means)

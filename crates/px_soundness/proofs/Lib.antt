@@ -1,4 +1,5 @@
 pub mod Assumed
+pub mod BoolRows
 pub mod BoolTerms
 pub mod CaseIsSound
 pub mod Examples
@@ -7,6 +8,7 @@ pub mod FirstSequents
 pub mod Forward
 pub mod Keeping
 pub mod MeaningParts
+pub mod OneClause
 pub mod Openings
 pub mod PlainExamples
 pub mod Preservation
@@ -20,6 +22,5 @@ pub mod Stacks
 pub mod StepIsSound
 pub mod TreesAreSound
 pub mod Truths
-pub mod TypedRows
 pub mod UnfoldIsSound
 pub mod Unique

@@ -1,84 +1,22 @@
--- In a plain program typing is kept by what rows do.
-use Rattle.std.proofs.Common.{◌≡◌, ℕ, zero, suc, ◌<◌, List, [], ◌∷◌, ◌++◌, length, map, reverse, Option, Some, None, option_map, option_and_then, unwrap_or, refl, sym, ap, ◌∙◌, slice_get, slice_set, subst, arith}
+-- Terms over `Bool` stay such terms where a part is replaced, and where arguments are put in.
+use Rattle.std.proofs.Common.{◌≡◌, ℕ, zero, suc, ◌<◌, List, [], ◌∷◌, length, map, Option, Some, None, option_map, option_and_then, unwrap_or, refl, sym, ap, ◌∙◌, slice_get, slice_set, subst, arith}
 use Rattle.std.proofs.lemmas.List.{length-map, length-set}
 use Rattle.px_terms.specs.declared.types.Ty.{Ty}
-use Rattle.px_terms.specs.declared.types.Ty.TheVariants as type
 use Rattle.px_terms.specs.Head.TheVariants.{Def}
 use Rattle.px_terms.specs.declared.term.Term.{Term, out-Term, roll-Term}
 use Rattle.px_terms.specs.declared.term.Term.TheViews.{roll-out-Term}
 use Rattle.px_terms.specs.declared.term.Term.TheVariants.{Free, Con, Call, Match, rolls-Free, rolls-Con, rolls-Call, rolls-Match, outs-Con, outs-Call, outs-Match}
 use Rattle.px_terms.specs.declared.term.Term.TheOpen.{Term-F}
 use Rattle.px_terms.specs.declared.clause.Sigma.{Sigma}
-use Rattle.px_terms.specs.declared.program.ConDef.{ConDef}
-use Rattle.px_terms.specs.declared.program.DataDef.{DataDef}
 use Rattle.px_terms.specs.declared.program.Def as definition
 use Rattle.px_terms.specs.declared.program.Program.{Program}
-use Rattle.px_terms.specs.declared.sequent.Context.{Context}
-use Rattle.px_terms.specs.Types.{ty_instance, tys_instance}
 use Rattle.px_terms.specs.Terms.{children_of, children, subterm, with_child_of, with_child, replaced, term_instance}
-use Rattle.px_terms.specs.TreeEquations.{ty_instance-Con, term_instance-Free, term_instance-Con, term_instance-Call, term_instance-Match}
-use Rattle.px_terms.specs.Programs.{bool_type, bool_data}
-use Rattle.px_terms.specs.Typing.{IsTypeLayer, IsType, HasTypeLayer, HaveTypes, HaveTypesInArms, HasType, live, free, con, call, choose, none, more, no_arm, arm}
-use Rattle.px_terms.specs.Plain.{IsPlainProgram, IsPlainDef, AreBools}
-use Rattle.px_terms.specs.Plain as plainly
-use Rattle.px_soundness.proofs.BoolTerms.{IsBoolLayer, AreBoolTerms, bool_variable, bool_truth, bool_match, bool_call, no_bool, more_bools, some_is, nothing_is_some, AreFieldless}
-use Rattle.px_soundness.proofs.Existence.{small_constructor, is_below, there_is, body_bool}
-
--- each type is `Bool`
-abbrev EachIsBool : List Ty → Type 0
-EachIsBool [] = Unit {0}
-EachIsBool (T ∷ types) = (T ≡ bool_type) × EachIsBool types
-
-each_is_bool : (types : List Ty) → AreBools types → EachIsBool types
-each_is_bool _ plainly.none = tt
-each_is_bool _ (plainly.more {types = types} others) = (refl, each_is_bool types others)
-
-module _ (P : Program) (plain : IsPlainProgram P) (context : Context) (calls : Type 0) where
-  bool_found : slice_get P.datatypes 0 ≡ Some bool_data
-  bool_found = ap (λ (datatypes : List DataDef). slice_get datatypes 0) plain.datatypes
-
-  bool_is_type : IsType P context.tparams bool_type
-  bool_is_type = subst (IsTypeLayer P context.tparams) (sym (type.outs-Con 0 [])) (con bool_found refl none)
-
-  constructor_typed : (k : ℕ) → k < 2 → HasTypeLayer P context [] (Term-F.Con 0 k [] []) bool_type
-  constructor_typed k small = con {c = record { fields = [] }} (small_constructor P plain.datatypes k small) bool_is_type refl none
-
-  match_typed : (on : Term) (arms : List Term) → HasTypeLayer P context [] (out-Term on) bool_type → HaveTypesInArms P context [] [] bool_data.cons arms bool_type → HasTypeLayer P context [] (Term-F.Match on 0 [] arms) bool_type
-  match_typed on arms on_typed arms_typed = choose on_typed refl bool_found arms_typed
-
-  call_typed : (n : ℕ) (D : definition.Def) (args : List Term) → slice_get P.defs n ≡ Some D → HaveTypes P context [] args (tys_instance [] D.params) → HasTypeLayer P context [] (Term-F.Call (record { head = Def n; types = [] }) [] args) bool_type
-  call_typed n D args found typed =
-      let d : IsPlainDef D = plain.plain n D found in
-      call found d.funs (sym d.tparams) none typed (sym (ap (ty_instance []) d.result ∙ ty_instance-Con [] 0 []))
-
-  first_typed : (t : Term) (ts : List Term) (T : Ty) (types : List Ty) → T ≡ bool_type → HasTypeLayer P context [] (out-Term t) bool_type → HaveTypes P context [] ts (tys_instance [] types) → HaveTypes P context [] (t ∷ ts) (tys_instance [] (T ∷ types))
-  first_typed t ts T types e first others = more (subst (HasTypeLayer P context [] (out-Term t)) (sym (ap (ty_instance []) e ∙ ty_instance-Con [] 0 [])) first) others
-
-  first_arm : (t : Term) (ts : List Term) (c : ConDef) (cs : List ConDef) → c.fields ≡ [] → HasTypeLayer P context [] (out-Term t) bool_type → HaveTypesInArms P context [] [] cs ts bool_type → HaveTypesInArms P context [] [] (c ∷ cs) (t ∷ ts) bool_type
-  first_arm t ts c cs e first others = arm (subst (λ (fields : List Ty). HasTypeLayer P context (reverse (tys_instance [] fields) ++ []) (out-Term t) bool_type) (sym e) first) others
-
-  mutual
-    layer_typed : (y : Term-F Term) → IsBoolLayer P context.vars calls y → HasTypeLayer P context [] y bool_type
-    layer_typed _ (bool_variable at) = free at
-    layer_typed _ (bool_truth {k = k} small) = constructor_typed k small
-    layer_typed _ (bool_match {on = on} {arms = arms} on_bool arms_bool two) = match_typed on arms (layer_typed (out-Term on) on_bool) (arms_typed bool_data.cons arms arms_bool (refl, (refl, tt)) two)
-    layer_typed _ (bool_call {n = n} {D = D} {args = args} there found args_bool long) = call_typed n D args found (layers_typed D.params args args_bool (each_is_bool D.params (plain.plain n D found).params) long)
-
-    layers_typed : (types : List Ty) (ts : List Term) → AreBoolTerms P context.vars calls ts → EachIsBool types → length ts ≡ length types → HaveTypes P context [] ts (tys_instance [] types)
-    layers_typed [] _ no_bool each long = none
-    layers_typed (T ∷ types) _ no_bool each long = let wrong : ⊥ = omega (arith, long) in absurd wrong
-    layers_typed [] _ (more_bools first others) each long = let wrong : ⊥ = omega (arith, long) in absurd wrong
-    layers_typed (T ∷ types) _ (more_bools {t = t} {ts = ts} first others) each long = first_typed t ts T types each.0 (layer_typed (out-Term t) first) (layers_typed types ts others each.1 (omega (arith, long)))
-
-    arms_typed : (cs : List ConDef) (ts : List Term) → AreBoolTerms P context.vars calls ts → AreFieldless cs → length ts ≡ length cs → HaveTypesInArms P context [] [] cs ts bool_type
-    arms_typed [] _ no_bool bare long = no_arm
-    arms_typed (c ∷ cs) _ no_bool bare long = let wrong : ⊥ = omega (arith, long) in absurd wrong
-    arms_typed [] _ (more_bools first others) bare long = let wrong : ⊥ = omega (arith, long) in absurd wrong
-    arms_typed (c ∷ cs) _ (more_bools {t = t} {ts = ts} first others) bare long = first_arm t ts c cs bare.0 (layer_typed (out-Term t) first) (arms_typed cs ts others bare.1 (omega (arith, long)))
-
-  -- a term over `Bool` is typed
-  pub term_typed : (t : Term) → IsBoolLayer P context.vars calls (out-Term t) → HasType P context t bool_type
-  term_typed t is_bool = layer_typed (out-Term t) is_bool
+use Rattle.px_terms.specs.TreeEquations.{term_instance-Free, term_instance-Con, term_instance-Call, term_instance-Match}
+use Rattle.px_terms.specs.Programs.{bool_type}
+use Rattle.px_terms.specs.Typing.{live}
+use Rattle.px_terms.specs.Plain.{IsPlainProgram}
+use Rattle.px_soundness.proofs.BoolTerms.{IsBoolLayer, AreBoolTerms, bool_variable, bool_truth, bool_match, bool_call, no_bool, more_bools, some_is, nothing_is_some}
+use Rattle.px_soundness.proofs.Existence.{is_below, there_is, body_bool}
 
 module _ (P : Program) (vars others : List (Option Ty)) (calls there : Type 0) (allow : calls → there) (g : Term → Term)
     (g_free : (n : ℕ) → slice_get vars n ≡ Some (Some bool_type) → IsBoolLayer P others there (out-Term (g (Free n))))

@@ -20,7 +20,7 @@ use Rattle.px_soundness.proofs.Assumed.{IsSound}
 use Rattle.px_soundness.proofs.CaseIsSound.{case_is_sound}
 use Rattle.px_soundness.proofs.SameIsSound.{same_is_sound}
 use Rattle.px_soundness.proofs.SelectIsSound.{select_is_sound}
-use Rattle.px_soundness.proofs.TypedRows.{IsBoolSequent}
+use Rattle.px_soundness.proofs.BoolRows.{IsBoolSequent}
 use Rattle.px_soundness.proofs.UnfoldIsSound.{unfold_is_sound}
 
 module _ (Q : Program) (plain : IsPlainProgram Q) (types : List Ty) (funs : List Fun) (n : ℕ) (clause : Clause) (on : List ℕ) (total : ℕ) where

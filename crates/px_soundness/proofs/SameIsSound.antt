@@ -10,7 +10,7 @@ use Rattle.px_terms.specs.Plain.{IsPlainProgram}
 use Rattle.px_soundness.proofs.Assumed.{IsSound}
 use Rattle.px_soundness.proofs.SidesHaveValues.{alternative_sides}
 use Rattle.px_soundness.proofs.Truths.{some_at, one_side}
-use Rattle.px_soundness.proofs.TypedRows.{IsBoolSequent}
+use Rattle.px_soundness.proofs.BoolRows.{IsBoolSequent}
 
 -- a sequent with an alternative whose sides are one term is valid
 pub same_is_sound : (Q : Program) → IsPlainProgram Q → (types : List Ty) (funs : List Fun) (n : ℕ) (clause : Clause) (on : List ℕ) (total : ℕ) (s : Sequent) (j : ℕ) (e : Equation) → IsBoolSequent Q s → slice_get s.alternatives j ≡ Some e → e.left ≡ e.right → IsSound Q types funs n clause on total s []

@@ -20,7 +20,7 @@ use Rattle.px_terms.specs.Terms.{subterm, replaced}
 use Rattle.px_terms.specs.Sequents.{side_of, with_alternative_side}
 use Rattle.px_soundness.proofs.PuttingIn.{no_values}
 use Rattle.px_soundness.proofs.MeaningParts.{MatchParts, ConParts, parts}
-use Rattle.px_soundness.proofs.TypedRows.{IsBoolSequent}
+use Rattle.px_soundness.proofs.BoolRows.{IsBoolSequent}
 use Rattle.px_soundness.proofs.Assumed.{IsSound}
 use Rattle.px_soundness.proofs.StepIsSound.{step_is_sound}
 

@@ -1,4 +1,4 @@
--- In a plain program the sides of a typed sequent's equations have values.
+-- In a plain program the sides of the alternatives of a sequent over `Bool` have values.
 use Rattle.std.proofs.Common.{◌≡◌, ℕ, List, slice_get, Some}
 use Rattle.px_terms.specs.declared.types.Ty.{Ty}
 use Rattle.px_terms.specs.declared.types.Fun.{Fun}
@@ -7,16 +7,13 @@ use Rattle.px_terms.specs.declared.clause.Equation.{Equation}
 use Rattle.px_terms.specs.declared.program.Program.{Program}
 use Rattle.px_terms.specs.declared.sequent.Sequent.{Sequent}
 use Rattle.px_terms.specs.Plain.{IsPlainProgram}
-use Rattle.px_terms.specs.TypedSequents.{IsTypedEquation}
 use Rattle.px_soundness.specs.Validity.{FitVariables}
 use Rattle.px_soundness.proofs.Existence.{has_value}
-use Rattle.px_soundness.proofs.TypedRows.{IsBoolSequent, all_at}
+use Rattle.px_soundness.proofs.BoolRows.{IsBoolEquation, IsBoolSequent, all_at}
 use Rattle.px_soundness.proofs.Truths.{HasSides}
 
 -- the sides of an alternative have values
 pub alternative_sides : (Q : Program) → IsPlainProgram Q → (types : List Ty) (funs : List Fun) (s : Sequent) → IsBoolSequent Q s → (rho : List Value) → FitVariables Q types s.context.vars rho → (j : ℕ) (e : Equation) → slice_get s.alternatives j ≡ Some e → HasSides Q types funs rho e
 alternative_sides Q plain types funs s is rho fit j e found =
-    let typed = all_at (IsTypedEquation Q s.context) s.alternatives j e found is.typed.alternatives in
-    let left = has_value Q plain s.context types funs rho fit is.bools e.left typed.T typed.left in
-    let right = has_value Q plain s.context types funs rho fit is.bools e.right typed.T typed.right in
-    record { left = (left.0, left.1, left.2); right = (right.0, right.1, right.2) }
+    let sides = all_at (IsBoolEquation Q s.context.vars) s.alternatives j e found is.alternatives in
+    record { left = has_value Q plain types funs s.context.vars rho fit e.left sides.left; right = has_value Q plain types funs s.context.vars rho fit e.right sides.right }

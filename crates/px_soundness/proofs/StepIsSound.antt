@@ -18,7 +18,7 @@ use Rattle.px_soundness.proofs.Assumed.{IsSound}
 use Rattle.px_soundness.proofs.Keeping.{replaced_keeps}
 use Rattle.px_soundness.proofs.SidesHaveValues.{alternative_sides}
 use Rattle.px_soundness.proofs.Truths.{some_set, side_back}
-use Rattle.px_soundness.proofs.TypedRows.{IsBoolSequent}
+use Rattle.px_soundness.proofs.BoolRows.{IsBoolSequent}
 
 -- a sequent is valid where it is with a part of a side replaced by a term that has the part's value
 pub step_is_sound : (Q : Program) → IsPlainProgram Q → (types : List Ty) (funs : List Fun) (n : ℕ) (clause : Clause) (on : List ℕ) (total : ℕ) (s : Sequent) (j : ℕ) (e : Equation) (side : Side) (path : List ℕ) (part becomes t : Term) → IsBoolSequent Q s → slice_get s.alternatives j ≡ Some e → subterm (side_of e side) path ≡ Some part → replaced (side_of e side) path becomes ≡ Some t → ((rho : List Value) (v : Value) (c : ℕ) → Means Q types funs rho part v c → (x : ℕ) × Means Q types funs rho becomes v x) → IsSound Q types funs n clause on total s (with_alternative_side s j e side t ∷ [])

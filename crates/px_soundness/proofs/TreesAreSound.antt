@@ -9,7 +9,7 @@ use Rattle.px_terms.specs.Derivations.{Node, Nodes, node, no_node, more_nodes, D
 use Rattle.px_terms.specs.Plain.{IsPlainProgram}
 use Rattle.px_soundness.specs.Validity.{IsValidAt}
 use Rattle.px_soundness.proofs.Assumed.{Assumed}
-use Rattle.px_soundness.proofs.TypedRows.{IsBoolSequent, all_at, opens_typed}
+use Rattle.px_soundness.proofs.BoolRows.{IsBoolSequent, all_at, opens_bool}
 use Rattle.px_soundness.proofs.RowsAreSound.{row_is_sound}
 
 module _ (Q : Program) (plain : IsPlainProgram Q) (types : List Ty) (funs : List Fun) (n : ℕ) (clause : Clause) (on : List ℕ) (total : ℕ) (assumed : Assumed Q types funs n clause on total) where
@@ -17,7 +17,7 @@ module _ (Q : Program) (plain : IsPlainProgram Q) (types : List Ty) (funs : List
     -- what a tree derives is valid
     pub tree_is_sound : (s : Sequent) (root : Node) → IsBoolSequent Q s → Derives Q n s root → IsValidAt Q types funs s total
     tree_is_sound s (node r nodes) is (by_row {children = children} opens all) =
-        let kept = opens_typed Q plain n s r children is.typed is.bools opens in
+        let kept = opens_bool Q plain n s r children is opens in
         (row_is_sound Q plain types funs n clause on total s r children is opens).sound assumed (trees_are_sound children nodes (λ i child found. all_at (IsBoolSequent Q) children i child found kept) all)
 
     trees_are_sound : (ss : List Sequent) (nodes : Nodes) → ((i : ℕ) (child : Sequent) → slice_get ss i ≡ Some child → IsBoolSequent Q child) → DeriveAll Q n ss nodes → (i : ℕ) (child : Sequent) → slice_get ss i ≡ Some child → IsValidAt Q types funs child total

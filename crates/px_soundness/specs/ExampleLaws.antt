@@ -1,17 +1,16 @@
 -- What the definitions say of small programs: true properties hold, and false ones do not.
 use Rattle.std.specs.Prelude.{◌≡◌, ◌⊎◌, ℕ, [], ◌∷◌, true, false}
 use Rattle.px_terms.specs.declared.term.Value.{Value}
-use Rattle.px_terms.specs.declared.term.Term.TheVariants as term
 use Rattle.px_terms.specs.declared.clause.Clause.{Clause}
 use Rattle.px_terms.specs.declared.program.Program.{Program}
-use Rattle.px_terms.specs.Programs.{bool_type, bool_data, true_term}
+use Rattle.px_terms.specs.Programs.{bool_type, bool_data}
 use Rattle.px_terms.specs.Values.{IsIn}
 use Rattle.px_terms.specs.Meaning.{truth}
 use Rattle.px_terms.specs.Holding.{Holds}
 use Rattle.px_terms.specs.Obligations.{IsObligation, AllHold}
 use Rattle.px_terms.specs.Plain.{IsPlainProgram}
 use Rattle.px_soundness.specs.Validity.{IsValidAt}
-use Rattle.px_soundness.specs.Examples.{bool_comm, bool_idem, or_body, or_program, left_program, constant_program, false_is_true}
+use Rattle.px_soundness.specs.Examples.{bool_comm, bool_idem, or_program, left_program, constant_program, false_is_true}
 
 -- In the program `Bool` has two values, `False` and `True`, which are not the same, and no other.
 pub record HasTwoTruths (P : Program) : Type 0 where
@@ -36,19 +35,19 @@ pub record IsFalseObligation (P : Program) (n : ℕ) (clause : Clause) : Type 0 
 
 -- or(x, y) = or(y, x) is declared, and holds
 abbrev pub OrIsCommutative : Type 0
-OrIsCommutative = IsTrueObligation or_program 0 (bool_comm or_body)
+OrIsCommutative = IsTrueObligation or_program 0 bool_comm
 
 -- or(x, x) = x is declared, and holds
 abbrev pub OrIsIdempotent : Type 0
-OrIsIdempotent = IsTrueObligation or_program 1 (bool_idem or_body)
+OrIsIdempotent = IsTrueObligation or_program 1 bool_idem
 
 -- left(x, y) = left(y, x) is declared, and does not hold
 abbrev pub LeftIsNotCommutative : Type 0
-LeftIsNotCommutative = IsFalseObligation left_program 0 (bool_comm (term.Free 0))
+LeftIsNotCommutative = IsFalseObligation left_program 0 bool_comm
 
 -- always(x, x) = x is declared, and does not hold
 abbrev pub ConstantIsNotIdempotent : Type 0
-ConstantIsNotIdempotent = IsFalseObligation constant_program 0 (bool_idem true_term)
+ConstantIsNotIdempotent = IsFalseObligation constant_program 0 bool_idem
 
 -- False = True is not valid, whatever the program
 abbrev pub FalseIsNotTrue : Type 0

@@ -1,5 +1,6 @@
 -- Small programs over truth values, whose declared properties are plainly true or plainly false.
 use Rattle.std.specs.Prelude.{List, [], ◌∷◌, map}
+use Rattle.px_terms.specs.Head.TheVariants as head
 use Rattle.px_terms.specs.Prop.{Prop}
 use Rattle.px_terms.specs.Prop.TheVariants as prop
 use Rattle.px_terms.specs.declared.term.Term.{Term}
@@ -11,7 +12,7 @@ use Rattle.px_terms.specs.Names.{Names}
 use Rattle.px_terms.specs.declared.program.Program.{Program}
 use Rattle.px_terms.specs.declared.sequent.Sequent.{Sequent}
 use Rattle.px_terms.specs.Programs.{bool_type, false_term, true_term, bool_data}
-use Rattle.px_terms.specs.Clauses.{Shape, comm_clause, idem_clause}
+use Rattle.px_terms.specs.Clauses.{Subject, clause_for}
 
 -- no names
 abbrev pub no_names : Names
@@ -25,17 +26,21 @@ bool_function body = record { tparams = 0; funs = []; params = bool_type ∷ boo
 abbrev pub bool_program : Term → List Prop → Program
 bool_program body props = record { datatypes = bool_data ∷ []; defs = bool_function body ∷ []; lemmas = []; declared = map (λ (p : Prop). declared.Property 0 p) props; replicas = []; names = no_names }
 
--- two last parameters of type `Bool`, and none before them
-abbrev pub bool_shape : Shape
-bool_shape = record { leading = []; last = bool_type }
+-- definition 0 as a function of two truth values, with no parameters before them
+abbrev pub bool_subject : Subject
+bool_subject = record { function = record { head = head.Def 0; types = [] }; given = []; leading = []; last = bool_type; result = bool_type }
 
--- f(x, y) = f(y, x) for the function with this body
-abbrev pub bool_comm : Term → Clause
-bool_comm body = comm_clause 0 (bool_function body) bool_shape
+-- what a property says of such a function
+abbrev pub bool_clause : Prop → Clause
+bool_clause p = clause_for bool_subject p 0 []
 
--- f(x, x) = x for the function with this body
-abbrev pub bool_idem : Term → Clause
-bool_idem body = idem_clause 0 (bool_function body) bool_shape
+-- f(x, y) = f(y, x)
+abbrev pub bool_comm : Clause
+bool_comm = bool_clause prop.Comm
+
+-- f(x, x) = x
+abbrev pub bool_idem : Clause
+bool_idem = bool_clause prop.Idem
 
 -- match a { False => b, True => True }
 abbrev pub or_body : Term

@@ -1,4 +1,4 @@
-use Rattle.px_soundness.proofs.FirstSequents.{one_clause}
+use Rattle.px_soundness.proofs.OneClause.{one_clause}
 use Rattle.px_soundness.proofs.laws.one_clause.Goals as goal
 
 pub returns : goal.returns

@@ -1,6 +1,5 @@
--- In a plain program each row leaves typed sequents of a typed sequent.
+-- In a plain program each row leaves sequents over `Bool` of one over `Bool`.
 use Rattle.std.proofs.Common.{◌≡◌, ℕ, zero, suc, ◌<◌, ◌==◌, List, [], ◌∷◌, ◌++◌, length, Bool, true, false, if◌then◌else◌, eqb, Option, Some, None, option_map, All, refl, sym, ap, ◌∙◌, slice_get, slice_set, get_or, subst, arith, append-nil}
-use Rattle.std.proofs.lemmas.List.{length-set}
 use Rattle.std.proofs.lemmas.List.Elements.{All-nil, All-cons, All-set, All-map}
 use Rattle.std.proofs.lemmas.Option.{get_or_from_slice_get}
 use Rattle.std.proofs.lemmas.Bool.{eqb-false}
@@ -15,7 +14,6 @@ use Rattle.px_terms.specs.declared.clause.Equation.{Equation}
 use Rattle.px_terms.specs.declared.program.DataDef.{DataDef}
 use Rattle.px_terms.specs.declared.program.Def as definition
 use Rattle.px_terms.specs.declared.program.Program.{Program}
-use Rattle.px_terms.specs.declared.sequent.Context.{Context}
 use Rattle.px_terms.specs.declared.sequent.Present.{Present}
 use Rattle.px_terms.specs.declared.sequent.Sequent.{Sequent}
 use Rattle.px_terms.specs.declared.row.Side.{Side}
@@ -23,19 +21,18 @@ use Rattle.px_terms.specs.declared.row.Side.TheVariants.{Left, Right}
 use Rattle.px_terms.specs.declared.row.Kind.{Kind}
 use Rattle.px_terms.specs.declared.row.Row.{Row}
 use Rattle.px_terms.specs.Terms.{term_instance, term_put}
-use Rattle.px_terms.specs.TreeEdits.{equation_put, with_side}
+use Rattle.px_terms.specs.TreeEdits.{equation_put, equations_put, with_side}
 use Rattle.px_terms.specs.TreeEquations.{term_put-Free, term_put-Con, term_put-Call, term_put-Match}
 use Rattle.px_terms.specs.Programs.{bool_type, bool_data, body_of}
 use Rattle.px_terms.specs.Sequents.{side_of, with_alternative_side}
 use Rattle.px_terms.specs.Steps.{Turns, unfolds, selects, Step}
 use Rattle.px_terms.specs.Derivations.{Opens, same, step, case, case_of, cases_from}
-use Rattle.px_terms.specs.Typing.{HasType}
-use Rattle.px_terms.specs.TypedSequents.{IsTypedEquation, IsTypedPresent, IsTypedSequent, HasBoolVariables}
+use Rattle.px_terms.specs.TypedSequents.{HasBoolVariables}
 use Rattle.px_terms.specs.Plain.{IsPlainProgram}
 use Rattle.px_soundness.proofs.Shapes.{ty-Con-injective}
-use Rattle.px_soundness.proofs.BoolTerms.{IsBoolLayer, AreBoolTerms, bool_variable, bool_truth, bool_match, bool_call, some_is, nothing_is_some, bool_datatype, bool_term}
+use Rattle.px_soundness.proofs.BoolTerms.{IsBoolLayer, AreBoolTerms, IsBoolTerm, bool_variable, bool_truth, bool_match, bool_call, some_is, nothing_is_some, bool_datatype}
 use Rattle.px_soundness.proofs.Existence.{is_below}
-use Rattle.px_soundness.proofs.Preservation.{term_typed, term_mapped, same_bool, bool_at, subterm_bool, replaced_bool, arguments, instance_bool}
+use Rattle.px_soundness.proofs.Preservation.{term_mapped, same_bool, bool_at, subterm_bool, replaced_bool, arguments, instance_bool}
 
 -- What a call over `Bool` rests on.
 record OfCall (P : Program) (vars : List (Option Ty)) (f : Fun) (funs : List Fun) (args : List Term) : Type 0 where
@@ -106,36 +103,32 @@ module _ (P : Program) (vars others : List (Option Ty)) (v : ℕ) (by : Term) (b
   pub put_bool : (t : Term) → IsBoolLayer P vars (Unit {0}) (out-Term t) → IsBoolLayer P others (Unit {0}) (out-Term (term_put v by t))
   put_bool t is_bool = term_mapped P vars others (Unit {0}) (Unit {0}) (λ here. here) (term_put v by) put_free (λ k. term_put-Con v by 0 k [] []) (λ on arms. term_put-Match v by on 0 [] arms) (λ n args. term_put-Call v by (record { head = Def n; types = [] }) [] args) t is_bool
 
--- The sequent is typed, and its live variables have type `Bool`.
+-- Both sides are terms over `Bool`.
+pub record IsBoolEquation (P : Program) (vars : List (Option Ty)) (e : Equation) : Type 0 where
+  pub left : IsBoolTerm P vars e.left
+  pub right : IsBoolTerm P vars e.right
+
+-- The sequent's live variables have type `Bool`, and its terms are over `Bool`.
 pub record IsBoolSequent (P : Program) (s : Sequent) : Type 0 where
-  pub typed : IsTypedSequent P s
   pub bools : HasBoolVariables s.context
+  pub alternatives : All (IsBoolEquation P s.context.vars) s.alternatives
+  pub facts : All (IsBoolEquation P s.context.vars) s.facts
+  pub present : All (λ (p : Present). IsBoolTerm P s.context.vars p.term) s.frame.entries
 
 -- an element that is found has what all elements have
 pub all_at : {A : Type 0} (Q : A → Type 0) (xs : List A) (j : ℕ) (x : A) → slice_get xs j ≡ Some x → All Q xs → Q x
 all_at Q xs j x at all = subst Q (get_or_from_slice_get xs j x x at) (all j x (is_below xs j x at))
 
-side_stepped : (P : Program) → IsPlainProgram P → (context : Context) → HasBoolVariables context → (facts : List Equation) (e : Equation) (side : Side) (path : List ℕ) (kind : Kind) (t : Term) → IsTypedEquation P context e → Step P facts (side_of e side) path kind t → IsTypedEquation P context (with_side side e t)
-side_stepped P plain context bools facts e Left path kind t typed steps = record {
-  T = bool_type;
-  left = term_typed P plain context (Unit {0}) t (step_bool P plain context.vars facts e.left path kind t (bool_term P plain context bools e.left typed.T typed.left).term steps);
-  right = term_typed P plain context (Unit {0}) e.right (bool_term P plain context bools e.right typed.T typed.right).term;
-}
-side_stepped P plain context bools facts e Right path kind t typed steps = record {
-  T = bool_type;
-  left = term_typed P plain context (Unit {0}) e.left (bool_term P plain context bools e.left typed.T typed.left).term;
-  right = term_typed P plain context (Unit {0}) t (step_bool P plain context.vars facts e.right path kind t (bool_term P plain context bools e.right typed.T typed.right).term steps);
-}
+side_stepped : (P : Program) → IsPlainProgram P → (vars : List (Option Ty)) (facts : List Equation) (e : Equation) (side : Side) (path : List ℕ) (kind : Kind) (t : Term) → IsBoolEquation P vars e → Step P facts (side_of e side) path kind t → IsBoolEquation P vars (with_side side e t)
+side_stepped P plain vars facts e Left path kind t is steps = record { left = step_bool P plain vars facts e.left path kind t is.left steps; right = is.right }
+side_stepped P plain vars facts e Right path kind t is steps = record { left = is.left; right = step_bool P plain vars facts e.right path kind t is.right steps }
 
 stepped : (P : Program) → IsPlainProgram P → (s : Sequent) (j : ℕ) (e : Equation) (side : Side) (path : List ℕ) (kind : Kind) (t : Term) → IsBoolSequent P s → slice_get s.alternatives j ≡ Some e → Step P s.facts (side_of e side) path kind t → IsBoolSequent P (with_alternative_side s j e side t)
 stepped P plain s j e side path kind t is at steps = record {
-  typed = record {
-    next = is.typed.next;
-    alternatives = All-set (IsTypedEquation P s.context) s.alternatives j (with_side side e t) (side_stepped P plain s.context is.bools s.facts e side path kind t (all_at (IsTypedEquation P s.context) s.alternatives j e at is.typed.alternatives) steps) is.typed.alternatives;
-    facts = is.typed.facts;
-    present = is.typed.present;
-  };
   bools = is.bools;
+  alternatives = (let here = all_at (IsBoolEquation P s.context.vars) s.alternatives j e at is.alternatives in All-set (IsBoolEquation P s.context.vars) s.alternatives j (with_side side e t) (side_stepped P plain s.context.vars s.facts e side path kind t here steps) is.alternatives);
+  facts = is.facts;
+  present = is.present;
 }
 
 gone_bools : (vars : List (Option Ty)) (v n : ℕ) (T : Ty) → ((n : ℕ) (T : Ty) → slice_get vars n ≡ Some (Some T) → T ≡ bool_type) → slice_get (slice_set vars v None) n ≡ Some (Some T) → T ≡ bool_type
@@ -152,27 +145,24 @@ module _ (P : Program) (plain : IsPlainProgram P) (s : Sequent) (is : IsBoolSequ
   abbrev after : List (Option Ty)
   after = slice_set s.context.vars v None ++ []
 
-  abbrev child_context : Context
-  child_context = record { tparams = s.context.tparams; funs = s.context.funs; vars = after }
-
   after_is : after ≡ slice_set s.context.vars v None
   after_is = append-nil (slice_set s.context.vars v None)
 
-  term_case : (t : Term) (T : Ty) → HasType P s.context t T → HasType P child_context (term_put v by t) bool_type
-  term_case t T typed = term_typed P plain child_context (Unit {0}) (term_put v by t) (put_bool P s.context.vars after v by (subst (IsBoolLayer P after (Unit {0})) (sym (outs-Con 0 k [] [])) (bool_truth small)) (λ n apart. ap (λ vars. slice_get vars n) after_is ∙ kept s.context.vars v n None apart) t (bool_term P plain s.context is.bools t T typed).term)
+  term_case : (t : Term) → IsBoolTerm P s.context.vars t → IsBoolTerm P after (term_put v by t)
+  term_case t is_bool = put_bool P s.context.vars after v by (subst (IsBoolLayer P after (Unit {0})) (sym (outs-Con 0 k [] [])) (bool_truth small)) (λ n apart. ap (λ vars. slice_get vars n) after_is ∙ kept s.context.vars v n None apart) t is_bool
 
-  equation_case : (e : Equation) → IsTypedEquation P s.context e → IsTypedEquation P child_context (equation_put v by e)
-  equation_case e typed = record { T = bool_type; left = term_case e.left typed.T typed.left; right = term_case e.right typed.T typed.right }
+  equation_case : (e : Equation) → IsBoolEquation P s.context.vars e → IsBoolEquation P after (equation_put v by e)
+  equation_case e is_bool = record { left = term_case e.left is_bool.left; right = term_case e.right is_bool.right }
+
+  equations_case : (es : List Equation) → All (IsBoolEquation P s.context.vars) es → All (IsBoolEquation P after) (equations_put v by es)
+  equations_case es all = All-map (IsBoolEquation P after) (equation_put v by) es (λ j d lt. equation_case (get_or es j d) (all j d lt))
 
   case_bool : IsBoolSequent P (case_of s v 0 [] k (record { fields = [] }))
   case_bool = record {
-    typed = record {
-      next = (let e = is.typed.next in let f = ap (λ (vars : List (Option Ty)). length vars) after_is in let g = length-set s.context.vars v None in omega (arith, e, f, g));
-      alternatives = All-map (IsTypedEquation P child_context) (equation_put v by) s.alternatives (λ j d lt. equation_case (get_or s.alternatives j d) (is.typed.alternatives j d lt));
-      facts = All-map (IsTypedEquation P child_context) (equation_put v by) s.facts (λ j d lt. equation_case (get_or s.facts j d) (is.typed.facts j d lt));
-      present = All-map (IsTypedPresent P child_context) (λ (p : Present). record { variable = p.variable; term = term_put v by p.term }) s.frame.entries (λ j d lt. let p = is.typed.present j d lt in record { T = bool_type; term = term_case (get_or s.frame.entries j d).term p.T p.term });
-    };
     bools = record { each = λ n T at. gone_bools s.context.vars v n T is.bools.each (sym (ap (λ vars. slice_get vars n) after_is) ∙ at) };
+    alternatives = equations_case s.alternatives is.alternatives;
+    facts = equations_case s.facts is.facts;
+    present = All-map (λ (p : Present). IsBoolTerm P after p.term) (λ (p : Present). record { variable = p.variable; term = term_put v by p.term }) s.frame.entries (λ j d lt. term_case (get_or s.frame.entries j d).term (is.present j d lt));
   }
 
 cases_bool : (P : Program) → IsPlainProgram P → (s : Sequent) (v d : ℕ) (args : List Ty) (D : DataDef) (children : List Sequent) → IsBoolSequent P s → slice_get s.context.vars v ≡ Some (Some (type.Con d args)) → slice_get P.datatypes d ≡ Some D → children ≡ cases_from s v d args 0 D.cons → All (IsBoolSequent P) children
@@ -184,11 +174,8 @@ cases_bool P plain s v d args D children is typed declared children_are =
     let all : children ≡ first ∷ second ∷ [] = children_are ∙ ap (λ d. cases_from s v d args 0 D.cons) parts.0 ∙ ap (λ args. cases_from s v 0 args 0 D.cons) parts.1 ∙ ap (λ (D : DataDef). cases_from s v 0 [] 0 D.cons) D_is in
     subst (All (IsBoolSequent P)) (sym all) (All-cons (IsBoolSequent P) first (second ∷ []) (case_bool P plain s is v 0 (omega arith)) (All-cons (IsBoolSequent P) second [] (case_bool P plain s is v 1 (omega arith)) (All-nil (IsBoolSequent P))))
 
--- each row leaves typed sequents of a typed sequent
-pub opens_typed : (P : Program) → IsPlainProgram P → (n : ℕ) (s : Sequent) (row : Row) (children : List Sequent) → IsTypedSequent P s → HasBoolVariables s.context → Opens P n s row children → All (IsBoolSequent P) children
-opens_typed P plain n s row children typed bools opens = by_row s row children (record { typed = typed; bools = bools }) opens
-  where
-    by_row : (s : Sequent) (row : Row) (children : List Sequent) → IsBoolSequent P s → Opens P n s row children → All (IsBoolSequent P) children
-    by_row s _ _ is (same found equal) = All-nil (IsBoolSequent P)
-    by_row s _ _ is (step {child = child} {j = j} {side = side} {path = path} {kind = kind} {e = e} {t = t} found steps child_is small) = All-cons (IsBoolSequent P) child [] (subst (IsBoolSequent P) (sym child_is) (stepped P plain s j e side path kind t is found steps)) (All-nil (IsBoolSequent P))
-    by_row s _ _ is (case {v = v} {D = D} {children = children} d args typed declared children_are small) = cases_bool P plain s v d args D children is typed declared children_are
+-- each row leaves sequents over `Bool` of one over `Bool`
+pub opens_bool : (P : Program) → IsPlainProgram P → (n : ℕ) (s : Sequent) (row : Row) (children : List Sequent) → IsBoolSequent P s → Opens P n s row children → All (IsBoolSequent P) children
+opens_bool P plain n s _ _ is (same found equal) = All-nil (IsBoolSequent P)
+opens_bool P plain n s _ _ is (step {child = child} {j = j} {side = side} {path = path} {kind = kind} {e = e} {t = t} found steps child_is small) = All-cons (IsBoolSequent P) child [] (subst (IsBoolSequent P) (sym child_is) (stepped P plain s j e side path kind t is found steps)) (All-nil (IsBoolSequent P))
+opens_bool P plain n s _ _ is (case {v = v} {D = D} {children = children} d args typed declared children_are small) = cases_bool P plain s v d args D children is typed declared children_are
