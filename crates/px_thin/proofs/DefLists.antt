@@ -13,7 +13,7 @@ abbrev pub own : ℕ → RawDef → List Declared
 own n raw = map (λ (p : RawProp). declared.Property n p.prop) raw.props
 
 -- there are as many as properties
-length-own : (n : ℕ) (raw : RawDef) → length (own n raw) ≡ length raw.props
+pub length-own : (n : ℕ) (raw : RawDef) → length (own n raw) ≡ length raw.props
 length-own n raw = length-map raw.props (λ (p : RawProp). declared.Property n p.prop)
 
 length-declared_from : (n : ℕ) (raw : RawDef) (raws : List RawDef) → length (declared_from n (raw ∷ raws)) ≡ length raw.props + length (declared_from (n + 1) raws)

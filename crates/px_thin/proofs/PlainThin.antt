@@ -1,8 +1,15 @@
 -- A thin program is plain, and what is numbered in it has a number below 2^32.
-use Rattle.std.proofs.Common.{◌≡◌, ℕ, zero, suc, ◌<◌, ◌≤◌, ◌^◌, List, [], ◌∷◌, ◌++◌, length, Some, None, sym, refl, ap, ◌∙◌, subst, arith, length-append, zero-add, replicate}
-use Rattle.std.proofs.lemmas.List.{length-replicate}
+use Rattle.std.proofs.Common.{◌≡◌, ℕ, zero, suc, ◌+◌, ◌<◌, ◌≤◌, ◌^◌, List, [], ◌∷◌, ◌++◌, length, Some, None, sym, refl, ap, ◌∙◌, subst, arith, length-append, zero-add, replicate}
+use Rattle.std.proofs.lemmas.List.{length-replicate, length-map}
 use Rattle.std.specs.List.{slice_get}
+use Rattle.px_terms.specs.Head.{Head}
+use Rattle.px_terms.specs.Head.TheVariants.{Def}
 use Rattle.px_terms.specs.Prop.{Prop}
+use Rattle.px_terms.specs.Prop.TheVariants.{Comm, Assoc, Idem, Sel, Refl, Irrefl, Sym, Antisym, Asym, Trans, Conn}
+use Rattle.px_terms.specs.declared.types.Ty.{Ty}
+use Rattle.px_terms.specs.declared.types.FnType.{FnType}
+use Rattle.px_terms.specs.declared.types.Fun.{Fun}
+use Rattle.px_terms.specs.declared.sequent.Context.{Context}
 use Rattle.px_terms.specs.declared.term.Term.{Term}
 use Rattle.px_terms.specs.declared.term.Term.TheVariants as term
 use Rattle.px_terms.specs.declared.clause.Clause.{Clause}
@@ -18,11 +25,15 @@ use Rattle.px_terms.specs.RawArm.{RawArm}
 use Rattle.px_terms.specs.RawProgram.{RawProgram}
 use Rattle.px_terms.specs.Programs.{bool_type, bool_data}
 use Rattle.px_terms.specs.Plain.{IsPlainLayer, ArePlain, IsPlain, AreBools, IsPlainDef, IsPlainProgram}
-use Rattle.px_terms.specs.Clauses.{IsClause}
+use Rattle.px_terms.specs.Types.{ty_instance}
+use Rattle.px_terms.specs.Typing.{IsFunction}
+use Rattle.px_terms.specs.Typing as typing
+use Rattle.px_terms.specs.Clauses.{Subject, says, IsClauseOf}
+use Rattle.px_terms.specs.Clauses as clauses
 use Rattle.px_terms.specs.Obligations.{IsDeclaredClause, IsObligation}
 use Rattle.px_terms.specs.Numbered.{HasNumbers}
 use Rattle.px_thin.specs.Thin.{IsThinLayer, variable, truth, choice, AreThinArms, false_first, true_first, bool_def, IsThinProgram}
-use Rattle.px_thin.proofs.Typed.{def_at, at_def, declared_at, has_property, typed_program}
+use Rattle.px_thin.proofs.Typed.{def_at, declared_in, typed_program}
 
 mutual
   -- a thin term is plain
@@ -48,31 +59,59 @@ plain_program raw P thin = record {
   lemmas = thin.lemmas;
 }
 
--- so many variables at most, and no function variables
-record IsFew (most : ℕ) (clause : Clause) : Type 0 where
-  vars : length clause.vars ≤ most
-  funs : clause.funs ≡ []
-
 -- so many parameters at most, and no function parameters
 record HasFew (most : ℕ) (d : definition.Def) : Type 0 where
   params : length d.params ≤ most
   funs : d.funs ≡ []
 
--- the clause of a property has no more variables than the definition has parameters
-few_of_property : (P : Program) (n most : ℕ) {p : Prop} {clause : Clause} → IsClause P n p clause → ((d : definition.Def) → slice_get P.defs n ≡ Some d → HasFew most d) → IsFew most clause
-few_of_property P n most (IsClause.comm {d = d} at s shape e) few =
-    let has = few d at in
-    let vars : length (s.leading ++ s.last ∷ s.last ∷ []) ≤ most = omega (arith, has.params, ap length shape) in
-    rw e (record { vars = vars; funs = has.funs })
-few_of_property P n most (IsClause.idem {d = d} at s shape result e) few =
-    let has = few d at in
-    let vars : length (s.leading ++ s.last ∷ []) ≤ most = omega (arith, has.params, ap length shape, length-append s.leading (s.last ∷ []), length-append s.leading (s.last ∷ s.last ∷ [])) in
-    rw e (record { vars = vars; funs = has.funs })
+-- definition n has so many parameters at most
+abbrev FewAt : Program → ℕ → ℕ → Type 0
+FewAt P n most = (d : definition.Def) → slice_get P.defs n ≡ Some d → HasFew most d
 
-few_variables : (P : Program) (o : Declared) {clause : Clause} (n : ℕ) (p : Prop) (most : ℕ) → IsDeclaredClause P o clause → o ≡ declared.Property n p → ((d : definition.Def) → slice_get P.defs n ≡ Some d → HasFew most d) → IsFew most clause
-few_variables P _ {clause} n p most (IsDeclaredClause.of_property {d = m} {p = q} is) e few =
+-- a definition takes as many values as it has parameters
+abbrev TakesFew : Program → ℕ → Head → List Ty → Type 0
+TakesFew P most (Def n) params = FewAt P n most → length params ≤ most
+TakesFew P most _ params = Unit {0}
+
+takes_few : (P : Program) (most : ℕ) (context : Context) (f : Fun) (takes : List FnType) (params : List Ty) (T : Ty) → IsFunction P context f takes params T → TakesFew P most f.head params
+takes_few P most context _ takes params T (typing.of_definition {types = types} {D = D} at count are takes_are params_are result_is) = λ few. omega (arith, (few D at).params, ap length params_are, length-map D.params (ty_instance types))
+takes_few P most context _ _ _ T (typing.at_most result_is) = tt
+takes_few P most context _ _ _ T (typing.equal result_is) = tt
+takes_few P most context _ _ params T (typing.of_variable at params_are result_is) = tt
+
+-- a property names three variables at most
+names_few : (s : Subject) (p : Prop) → (says s p).named ≤ 3
+names_few s Comm = omega arith
+names_few s Assoc = omega arith
+names_few s Idem = omega arith
+names_few s Sel = omega arith
+names_few s Refl = omega arith
+names_few s Irrefl = omega arith
+names_few s Sym = omega arith
+names_few s Antisym = omega arith
+names_few s Asym = omega arith
+names_few s Trans = omega arith
+names_few s Conn = omega arith
+
+-- so many variables at most, and no function variables
+record IsFew (most : ℕ) (clause : Clause) : Type 0 where
+  vars : length clause.vars ≤ most
+  funs : clause.funs ≡ []
+
+-- the clause of a property has at most one variable more than the definition has parameters
+few_of_property : (P : Program) (n most : ℕ) {p : Prop} {clause : Clause} → IsClauseOf P [] (Def n) p clause → FewAt P n most → IsFew (most + 1) clause
+few_of_property P n most {p} (clauses.of_definition {D = D} at s subject result e) few =
+    let taken : length subject.params ≤ most = takes_few P most _ (record { head = Def n; types = _ }) subject.takes subject.params s.result subject.function few in
+    let named = (says s p).named in
+    let front : length subject.params ≡ length s.leading + 2 = ap length subject.shape ∙ length-append s.leading (s.last ∷ s.last ∷ []) in
+    let count = length-append s.leading (replicate named s.last) in
+    let vars : length (s.leading ++ replicate named s.last) ≤ most + 1 = omega (arith, taken, front, count, length-replicate named s.last, names_few s p) in
+    rw e (record { vars = vars; funs = (few D at).funs })
+
+few_variables : (P : Program) (o : Declared) {clause : Clause} (n : ℕ) (p : Prop) (most : ℕ) → IsDeclaredClause P o clause → o ≡ declared.Property n p → FewAt P n most → IsFew (most + 1) clause
+few_variables P _ {clause} n p most (IsDeclaredClause.of_property {n = m} {p = q} is) e few =
     let same : m ≡ n = cc in
-    few_of_property P m most is (subst (λ k. (d : definition.Def) → slice_get P.defs k ≡ Some d → HasFew most d) (sym same) few)
+    few_of_property P m most is (subst (λ k. FewAt P k most) (sym same) few)
 few_variables P _ n p most (IsDeclaredClause.of_lemma at is) e few = cc
 
 few_constructors : (n : ℕ) (D : DataDef) → slice_get (bool_data ∷ []) n ≡ Some D → length D.cons < 2 ^ 32
@@ -80,20 +119,17 @@ few_constructors zero D e = let same : bool_data ≡ D = cc in subst (λ (x : Da
 few_constructors (suc n) D e = let none_there : None ≡ Some D = e in cc
 
 module _ (raw : RawProgram) (P : Program) (thin : IsThinProgram raw P) where
-  few_params : (params seen place : ℕ) (body : Term) → slice_get P.defs place ≡ Some (bool_def params seen body) → params ≤ 8 → (d : definition.Def) → slice_get P.defs place ≡ Some d → HasFew 8 d
+  few_params : (params seen place : ℕ) (body : Term) → slice_get P.defs place ≡ Some (bool_def params seen body) → params ≤ 8 → FewAt P place 8
   few_params params seen place body at few d e =
       let both : Some (bool_def params seen body) ≡ Some d = sym at ∙ e in
       let same : bool_def params seen body ≡ d = cc in
       subst (λ (x : definition.Def). HasFew 8 x) same (record { params = omega (arith, length-replicate params bool_type, few); funs = refl })
 
-  variables_of : (n : ℕ) (clause : Clause) → IsObligation P n clause → IsFew 8 clause
+  variables_of : (n : ℕ) (clause : Clause) → IsObligation P n clause → IsFew 9 clause
   variables_of n clause obligation =
-      let found = declared_at 0 raw.defs n obligation.declared (ap (λ (os : List Declared). slice_get os n) (sym thin.parts.are_declared) ∙ obligation.number) in
-      let placed = at_def thin.parts.are_defs found.place found.raw found.at in
-      let lawful = has_property found.raw found.index found.property placed.3.head found.has in
-      let at : slice_get P.defs found.place ≡ Some (bool_def (length found.raw.params) placed.1 placed.3.body) = placed.2 ∙ ap (λ (d : definition.Def). Some d) placed.3.is in
-      let same : obligation.declared ≡ declared.Property found.place found.property.prop = found.is ∙ ap (λ m. declared.Property m found.property.prop) (zero-add found.place) in
-      few_variables P obligation.declared found.place found.property.prop 8 obligation.says same (few_params (length found.raw.params) placed.1 found.place placed.3.body at lawful.2)
+      let found = declared_in raw P thin n obligation.declared obligation.number in
+      let same : obligation.declared ≡ declared.Property found.place found.property = found.is ∙ ap (λ m. declared.Property m found.property) (zero-add found.place) in
+      few_variables P obligation.declared found.place found.property 8 obligation.says same (few_params found.params found.before found.place found.body found.at found.eight)
 
   pub numbered_program : HasNumbers P
   numbered_program = record {
