@@ -24,7 +24,7 @@ use Rattle.px_terms.specs.Typing.{Place, in_body, IsTypeLayer, IsType, IsSmallMe
 use Rattle.px_terms.specs.Typing as typing
 use Rattle.px_terms.specs.Clauses.{HasResult, IsClauseOf}
 use Rattle.px_terms.specs.Clauses as clauses
-use Rattle.px_terms.specs.TypedPrograms.{IsWritten, IsFnType, IsTypedCon, IsTypedData, HasSignature, IsTypedDef, IsTypedProperty, IsTypedReplica}
+use Rattle.px_terms.specs.TypedPrograms.{IsWritten, IsWrittenFnType, IsTypedCon, IsTypedData, HasSignature, IsTypedDef, IsTypedProperty, IsTypedReplica}
 use Rattle.px_terms.specs.Obligations.{IsObligation}
 use Rattle.px_terms.specs.Obligations as obligations
 use Rattle.px_terms.specs.Plain.{IsPlainLayer, IsPlain, IsPlainDef, IsPlainProgram}
@@ -147,7 +147,7 @@ module _ (body : Term) (props : List Prop) where
 
   signature : HasSignature P (bool_function body)
   signature = record {
-    funs = record { types = All-nil (IsFnType P 0); assumed = λ i F p at has. absurd (nothing_is_some F None refl at) };
+    funs = record { types = All-nil (IsWrittenFnType P 0); assumed = λ i F p at has. absurd (nothing_is_some F None refl at) };
     params = All-cons (IsWritten P 0) bool_type (bool_type ∷ []) bool_is_written (All-cons (IsWritten P 0) bool_type [] bool_is_written (All-nil (IsWritten P 0)));
     result = bool_is_written;
   }
