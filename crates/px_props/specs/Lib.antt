@@ -1,0 +1,4 @@
+pub mod Answered
+pub mod Sets
+pub mod Signatures
+pub mod Table
