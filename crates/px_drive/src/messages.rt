@@ -5,6 +5,7 @@ ghost use Rattle.px_world.specs.Known.{AppendsPrefix};
 ghost use Rattle.px_world.specs.Faults.{Rose};
 ghost use Rattle.px_drive.specs.Messages.{checked_line, accepted_line, scope_words, source_line, message_of, status_of, bytes_of_all};
 ghost use Rattle.px_drive.specs.Answers.{Tells};
+ghost use Rattle.px_drive.specs.Seen.{sink_seen};
 
 use crate::{End, Outcome, SourceFault, Which};
 use itoa::Buffer;
@@ -13,7 +14,7 @@ use px_terms::Program;
 use px_world::{Sink, WriteFault, write_all};
 
 /// The status that the program ends with: 0 where the work is done, and a number of its own for each
-/// kind of refusal. It takes no memory.
+/// kind of refusal.
 pub fn status(outcome: &Outcome) -> u8
     ensures { result ≡ status_of outcome.now.end }
 {
@@ -29,7 +30,7 @@ pub fn status(outcome: &Outcome) -> u8
     }
 }
 
-/// Writes the line of an end, with its line feed. Where the work is done there is none. It takes no memory.
+/// Writes the line of an end, with its line feed. Where the work is done there is none.
 /// `WriteFault` comes only where the sink's count of faults rose, and then a front of the line was written.
 fn write_message<E: Sink>(end: End, err: &mut E) -> Result<(), WriteFault>
     ensures ok { OnOk result (Appends (E.written err.old) (E.written err.new) (message_of end)) }
@@ -52,7 +53,7 @@ fn write_message<E: Sink>(end: End, err: &mut E) -> Result<(), WriteFault>
     }
 }
 
-/// Writes the line of a text that is no program. It takes no memory. `WriteFault` comes only where the sink's
+/// Writes the line of a text that is no program. `WriteFault` comes only where the sink's
 /// count of faults rose, and then a front of the line was written.
 fn write_source<E: Sink>(fault: SourceFault, err: &mut E) -> Result<(), WriteFault>
     ensures ok { OnOk result (Appends (E.written err.old) (E.written err.new) (source_line fault)) }
@@ -68,7 +69,7 @@ fn write_source<E: Sink>(fault: SourceFault, err: &mut E) -> Result<(), WriteFau
     }
 }
 
-/// Writes the line of a name that breaks a rule of scope. It takes no memory. `WriteFault` comes only where the
+/// Writes the line of a name that breaks a rule of scope. `WriteFault` comes only where the
 /// sink's count of faults rose, and then a front of the line was written.
 fn write_scope<E: Sink>(kind: ScopeKind, at: u32, err: &mut E) -> Result<(), WriteFault>
     ensures ok { OnOk result (Appends (E.written err.old) (E.written err.new) (source_line (SourceFault.Scope kind at))) }
@@ -90,7 +91,7 @@ fn write_scope<E: Sink>(kind: ScopeKind, at: u32, err: &mut E) -> Result<(), Wri
     )
 }
 
-/// Writes these bytes, a place in decimal, and a line feed. It takes no memory. `WriteFault` comes only where the
+/// Writes these bytes, a place in decimal, and a line feed. `WriteFault` comes only where the
 /// sink's count of faults rose, and then a front of the line was written.
 fn write_place<E: Sink>(before: &[u8], at: u32, err: &mut E) -> Result<(), WriteFault>
     ensures ok { OnOk result (Appends (E.written err.old) (E.written err.new) (before.now ++ (decimal at ++ codes "\n"))) }
@@ -116,15 +117,9 @@ fn words(kind: ScopeKind) -> &'static str
 }
 
 /// Writes the line of an end, and answers the end that the command has by then: this one, or a fault of
-/// writing where the line wasn't written whole. Where the work is done nothing is written. It takes no
-/// memory.
-pub fn report<E: Sink>(end: End, err: &mut E) -> End
-    ensures tells { Tells end (record {
-      old = E.written err.old;
-      new = E.written err.new;
-      before = E.faults err.old;
-      after = E.faults err.new;
-    }) result }
+/// writing where the line wasn't written whole. Where the work is done nothing is written.
+pub(crate) fn report<E: Sink>(end: End, err: &mut E) -> End
+    ensures tells { Tells end (sink_seen E.Sink err.old err.new) result }
     ensures later { E.faults err.old ≤ E.faults err.new }
 {
     if end == End::Done {
@@ -136,9 +131,9 @@ pub fn report<E: Sink>(end: End, err: &mut E) -> End
     }
 }
 
-/// Writes how many datatypes, definitions and obligations the program has; `Bool` isn't counted. It takes no memory.
+/// Writes how many datatypes, definitions and obligations the program has; `Bool` isn't counted.
 /// `WriteFault` comes only where the sink's count of faults rose, and then a front of the line was written.
-pub fn print_checked<O: Sink>(out: &mut O, program: &Program) -> Result<(), WriteFault>
+pub(crate) fn print_checked<O: Sink>(out: &mut O, program: &Program) -> Result<(), WriteFault>
     ensures ok { OnOk result (Appends (O.written out.old) (O.written out.new) (checked_line program.now)) }
     ensures prefix { OnErr result
         (AppendsPrefix (O.written out.old) (O.written out.new) (checked_line program.now)) }
@@ -164,9 +159,9 @@ pub fn print_checked<O: Sink>(out: &mut O, program: &Program) -> Result<(), Writ
     )
 }
 
-/// Writes how many obligations were accepted. It takes no memory. `WriteFault` comes only where the sink's
+/// Writes how many obligations were accepted. `WriteFault` comes only where the sink's
 /// count of faults rose, and then a front of the line was written.
-pub fn print_accepted<O: Sink>(out: &mut O, obligations: u32) -> Result<(), WriteFault>
+pub(crate) fn print_accepted<O: Sink>(out: &mut O, obligations: u32) -> Result<(), WriteFault>
     ensures ok { OnOk result (Appends (O.written out.old) (O.written out.new) (accepted_line obligations)) }
     ensures prefix { OnErr result
         (AppendsPrefix (O.written out.old) (O.written out.new) (accepted_line obligations)) }
@@ -180,7 +175,7 @@ pub fn print_accepted<O: Sink>(out: &mut O, obligations: u32) -> Result<(), Writ
     )
 }
 
-/// Writes the pieces one after the other. It takes no memory. `WriteFault` comes only where the sink's
+/// Writes the pieces one after the other. `WriteFault` comes only where the sink's
 /// count of faults rose, and then a front of the bytes was written.
 fn write_pieces<S: Sink>(sink: &mut S, pieces: &[&[u8]]) -> Result<(), WriteFault>
     ensures ok { OnOk result (Appends (S.written sink.old) (S.written sink.new) (bytes_of_all pieces.now)) }
