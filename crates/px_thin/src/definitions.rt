@@ -27,7 +27,7 @@ pub(crate) struct Parts {
 }
 
 /// The definitions of written ones, with their obligations. `NotThin` where one of them is not thin, or there are
-/// 2^32 definitions or obligations. It takes memory.
+/// 2^32 definitions or obligations.
 pub(crate) fn thin_defs(alloc: Global, raws: &[RawDef]) -> Result<Parts, ThinEnd>
     ensures is { IfOk result (λ parts. AreThinParts raws.now parts.defs parts.declared) }
     ensures only { IfErr result (SaysOf ((defs : List AnyDef) (declared : List AnyDeclared) → ¬ AreThinParts raws.now defs declared)) }
@@ -49,8 +49,7 @@ pub(crate) fn thin_defs(alloc: Global, raws: &[RawDef]) -> Result<Parts, ThinEnd
     Ok(Parts { defs, declared })
 }
 
-/// The definition of a written one, where so many obligations stand before it. `NotThin` where it is not thin. It
-/// takes memory.
+/// The definition of a written one, where so many obligations stand before it. `NotThin` where it is not thin.
 fn thin_def(alloc: Global, seen: u32, raw: &RawDef) -> Result<Def, ThinEnd>
     ensures is { IfOk result (λ def. IsThinDef seen raw.now def) }
     ensures only { IfErr result (SaysOf ((def : AnyDef) → ¬ IsThinDef seen raw.now def)) }
@@ -70,7 +69,7 @@ fn thin_def(alloc: Global, seen: u32, raw: &RawDef) -> Result<Def, ThinEnd>
     })
 }
 
-/// The type `Bool`. It takes no memory.
+/// The type `Bool`.
 fn bool_type(alloc: Global) -> Ty
     ensures { result ≡ boolean }
 {
@@ -80,7 +79,7 @@ fn bool_type(alloc: Global) -> Ty
     }
 }
 
-/// So many types, each `Bool`. It takes memory.
+/// So many types, each `Bool`.
 fn bool_types(alloc: Global, count: usize) -> Result<Items<Ty>, ThinEnd>
     ensures is { IfOk result (λ types. types ≡ replicate count boolean) }
     ensures only { IfErr result (λ end. end ≡ ThinEnd.NoMemory) }
@@ -92,7 +91,7 @@ fn bool_types(alloc: Global, count: usize) -> Result<Items<Ty>, ThinEnd>
     Ok(types)
 }
 
-/// Adds the properties of a definition to the obligations, in order. It takes memory.
+/// Adds the properties of a definition to the obligations, in order.
 fn declare(declared: &mut Items<Declared>, def: u32, props: &[RawProp]) -> Result<(), ThinEnd>
     ensures is { OnOk result (declared.new ≡ declared.old ++ map (λ (p : Property). obligations.Property def p.prop) props.now) }
     ensures only { IfErr result (λ end. end ≡ ThinEnd.NoMemory) }

@@ -8,7 +8,7 @@ use px_terms::limits::CLAUSE_VARIABLES;
 use px_terms::{Prop, RawDef, RawProp, RawTy, RawTyKind};
 
 /// Whether the definition speaks of `Bool` alone before its body, has no other properties than commutativity and
-/// idempotence, and where it has one, two to eight parameters. It takes no memory.
+/// idempotence, and where it has one, two to eight parameters.
 pub(crate) fn has_thin_head(raw: &RawDef) -> bool
     ensures { IsTrue result ↔ IsThinHead raw.now }
 {

@@ -1,6 +1,8 @@
 //! Thin programs, taken from written ones: definitions over `Bool` alone, with commutativity and
 //! idempotence. Until types are checked these are the programs that propel takes. Names are numbers already,
-//! so a thin program is taken part by part; where a part is not thin, the whole is not.
+//! so a thin program is taken part by part; where a part is not thin, the whole is not. What is handed
+//! `alloc` and answers a `Result` takes memory, and answers `NoMemory` where there is none; nothing else
+//! takes any.
 #![tactic(auto)]
 
 mod definitions;

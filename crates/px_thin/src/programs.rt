@@ -26,7 +26,7 @@ struct Pieces {
 /// a body has something else than parameters, `False`, `True` and matches with an arm for each of the two, types are
 /// written after one of these, a property is another than commutativity and idempotence, a definition with a property
 /// has fewer than two parameters or more than a clause may have variables, or there are 2^32 definitions or
-/// obligations. It takes memory; its calls nest as deep as a body, and its time is linear in the program.
+/// obligations. Its calls nest as deep as a body, and its time is linear in the program.
 pub fn thin_program(alloc: Global, raw: RawProgram) -> Result<Program, ThinEnd>
     ensures thin { IfOk result (λ program. IsThinProgram raw program) }
     ensures only { (P : AnyProgram) → IsThinProgram raw P → IsUnlessNoMemory P result }
@@ -38,7 +38,7 @@ pub fn thin_program(alloc: Global, raw: RawProgram) -> Result<Program, ThinEnd>
     Ok(with_names(alloc, pieces, names))
 }
 
-/// What the thin program of a written one has besides its names. `NotThin` where it is not thin. It takes memory.
+/// What the thin program of a written one has besides its names. `NotThin` where it is not thin.
 fn thin_pieces(alloc: Global, raw: &RawProgram) -> Result<Pieces, ThinEnd>
     ensures is { IfOk result (λ pieces. AreThinPieces raw.now pieces) }
     ensures only { IfErr result (SaysOf ((P : AnyProgram) → ¬ IsThinProgram raw.now P)) }
@@ -51,7 +51,7 @@ fn thin_pieces(alloc: Global, raw: &RawProgram) -> Result<Pieces, ThinEnd>
     Ok(Pieces { datatypes, parts })
 }
 
-/// Whether nothing else than definitions is declared: the one datatype is `Bool`. It takes no memory.
+/// Whether nothing else than definitions is declared: the one datatype is `Bool`.
 fn has_definitions_alone(raw: &RawProgram) -> bool
     ensures { IsTrue result ↔ HasDefinitionsAlone raw.now }
 {
@@ -61,7 +61,7 @@ fn has_definitions_alone(raw: &RawProgram) -> bool
         && raw.replicas.is_empty()
 }
 
-/// The declaration of `Bool` alone. It takes memory.
+/// The declaration of `Bool` alone.
 fn bool_datatypes(alloc: Global) -> Result<Items<DataDef>, ThinEnd>
     ensures is { IfOk result (λ datatypes. datatypes ≡ bool_data ∷ []) }
     ensures only { IfErr result (λ end. end ≡ ThinEnd.NoMemory) }
@@ -78,7 +78,7 @@ fn bool_datatypes(alloc: Global) -> Result<Items<DataDef>, ThinEnd>
     Ok(datatypes)
 }
 
-/// The program of these pieces, with these names. It takes no memory.
+/// The program of these pieces, with these names.
 fn with_names(alloc: Global, pieces: Pieces, names: Names) -> Program
     ensures { result ≡ record { datatypes = pieces.datatypes; defs = pieces.parts.defs; lemmas = []; declared = pieces.parts.declared; replicas = []; names = names } }
 {

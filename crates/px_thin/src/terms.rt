@@ -6,39 +6,39 @@ ghost use Rattle.px_thin.specs.Thin.{IsThinTerm, AreThinArms};
 ghost use Rattle.px_thin.specs.Ends.{SaysOf, IsThinArm, IsOrderOf};
 
 use crate::end::ThinEnd;
-use px_terms::{RawArm, RawKind, RawTerm, Term};
+use px_terms::{RawArm, RawTerm, Term};
 use sqlite_items::{Boxed, Items};
 use std::alloc::Global;
 
 /// An arm of a match: the number of its constructor of `Bool`, and its term.
 #[derive(Drop)]
-pub(crate) struct Arm {
-    pub(crate) con: u32,
-    pub(crate) body: Term,
+struct Arm {
+    con: u32,
+    body: Term,
 }
 
 /// The terms of the two arms of a match.
 #[derive(Drop)]
-pub(crate) struct Arms {
-    pub(crate) if_false: Term,
-    pub(crate) if_true: Term,
+struct Arms {
+    if_false: Term,
+    if_true: Term,
 }
 
 /// The term of a written one, in which the first `params` variables are parameters. `NotThin` where it is
-/// not thin. It takes memory; its calls nest as deep as the term.
+/// not thin. Its calls nest as deep as the term.
 #[cycle(thin_term)]
 pub(crate) fn thin_term(alloc: Global, params: usize, raw: &RawTerm) -> Result<Term, ThinEnd>
     ensures is { IfOk result (λ t. IsThinTerm params raw.now t) }
     ensures only { IfErr result (SaysOf ((t : AnyTerm) → ¬ IsThinTerm params raw.now t)) }
 {
     match &raw.kind {
-        RawKind::Free { number, types } => {
+        px_terms::RawKind::Free { number, types } => {
             if !types.is_empty() || *number as usize >= params {
                 return Err(ThinEnd::NotThin);
             }
             Ok(Term::Free(*number))
         }
-        RawKind::Con {
+        px_terms::RawKind::Con {
             datatype,
             con,
             types,
@@ -49,7 +49,7 @@ pub(crate) fn thin_term(alloc: Global, params: usize, raw: &RawTerm) -> Result<T
             }
             Ok(truth(alloc, *con))
         }
-        RawKind::Match { on, arms } => {
+        px_terms::RawKind::Match { on, arms } => {
             let on = thin_term(alloc, params, on.get())?;
             let arms = thin_arms(alloc, params, arms.as_slice())?;
             match_of(alloc, on, arms)
@@ -58,7 +58,7 @@ pub(crate) fn thin_term(alloc: Global, params: usize, raw: &RawTerm) -> Result<T
     }
 }
 
-/// The constructor of this number of `Bool`, as a term. It takes no memory.
+/// The constructor of this number of `Bool`, as a term.
 fn truth(alloc: Global, con: u32) -> Term
     ensures { result ≡ Term.Con 0 con [] [] }
 {
@@ -84,7 +84,7 @@ fn thin_arms(alloc: Global, params: usize, raws: &[RawArm]) -> Result<Arms, Thin
     in_order(first, second)
 }
 
-/// Two arms, that for `False` first. `NotThin` where both are for one constructor. It takes no memory.
+/// Two arms, that for `False` first. `NotThin` where both are for one constructor.
 fn in_order(first: Arm, second: Arm) -> Result<Arms, ThinEnd>
     ensures is { IfOk result (IsOrderOf first second) }
     ensures only { IfErr result (SaysOf (first.con ≡ second.con)) }
@@ -118,7 +118,7 @@ fn thin_arm(alloc: Global, params: usize, raw: &RawArm) -> Result<Arm, ThinEnd>
     Ok(Arm { con: raw.con, body })
 }
 
-/// The match on `on` with these arms. It takes memory.
+/// The match on `on` with these arms.
 fn match_of(alloc: Global, on: Term, both: Arms) -> Result<Term, ThinEnd>
     ensures is { IfOk result (λ t. t ≡ Term.Match on 0 [] (both.if_false ∷ both.if_true ∷ [])) }
     ensures only { IfErr result (λ end. end ≡ ThinEnd.NoMemory) }

@@ -120,34 +120,32 @@ fn or_term(alloc: Global) -> Result<Term, AllocError> {
     })
 }
 
+/// What there is where the last arm is for a constructor and gives a variable: a program, or why there is none.
+const TAKEN: [(u32, u32, Option<ThinEnd>); 4] = [
+    (0, 1, None),
+    (0, 2, Some(ThinEnd::NotThin)),
+    (1, 1, Some(ThinEnd::NotThin)),
+    (2, 1, Some(ThinEnd::NotThin)),
+];
+
 #[test]
-fn a_thin_program_is_taken_with_its_arms_in_order(rt: HostRuntime) -> Result<(), Fail> {
+fn what_is_thin_is_taken_with_its_arms_in_order(rt: HostRuntime) -> Result<(), Fail> {
     let alloc = rt.alloc();
-    let raw = or_program(alloc, or_body(alloc, 0, 1)?)?;
-    let program = thin_program(alloc, raw)?;
-    let defs = program.defs.as_slice();
-    assert_eq!(rt; defs.len(), 1);
-    assert_eq!(rt; defs[0].params.len(), 2);
-    assert!(rt; same_term(&defs[0].body, &or_term(alloc)?));
     let comm = Declared::Property {
         def: 0,
         prop: Prop::Comm,
     };
-    assert_eq!(rt; program.declared.as_slice(), [comm].as_slice());
-    let names = program.names.defs.as_slice();
-    assert_eq!(rt; names.len(), 1);
-    assert_eq!(rt; names[0].as_str(), "or");
-    Ok(())
-}
-
-#[test]
-fn what_is_not_thin_is_refused(rt: HostRuntime) -> Result<(), Fail> {
-    let alloc = rt.alloc();
-    for (con, number) in [(0, 2), (1, 1), (2, 1)] {
+    for (con, number, wanted) in TAKEN {
         let raw = or_program(alloc, or_body(alloc, con, number)?)?;
         match thin_program(alloc, raw) {
-            Ok(_program) => assert!(rt; false, "{con} {number}"),
-            Err(end) => assert_eq!(rt; end, ThinEnd::NotThin),
+            Ok(program) => {
+                assert_eq!(rt; wanted, None, "{con} {number}");
+                let defs = program.defs.as_slice();
+                assert_eq!(rt; defs.len(), 1);
+                assert!(rt; same_term(&defs[0].body, &or_term(alloc)?));
+                assert_eq!(rt; program.declared.as_slice(), [comm].as_slice());
+            }
+            Err(end) => assert_eq!(rt; Some(end), wanted, "{con} {number}"),
         }
     }
     Ok(())
