@@ -14,8 +14,7 @@ use std::alloc::Global;
 /// has no arm for its value, a called definition is missing, evaluation nests deeper than `fuel` terms, or
 /// the calls are more than a u64 counts. None also where a part is not built here: pattern variables,
 /// matches on a constructor with fields, type arguments and function arguments of a call, calls of built-ins
-/// and of function variables. It takes memory, and fails only where there is none; its calls nest as deep as
-/// evaluation does.
+/// and of function variables. Its calls nest as deep as evaluation does.
 pub fn evaluate(
     alloc: Global,
     program: &Program,

@@ -114,27 +114,13 @@ fn or_has_its_truth_table(rt: HostRuntime) -> Result<(), Fail> {
 }
 
 #[test]
-fn nested_calls_are_counted(rt: HostRuntime) -> Result<(), Fail> {
+fn calls_are_counted_where_there_is_a_value(rt: HostRuntime) -> Result<(), Fail> {
     let alloc = rt.alloc();
     let inner = or(alloc, truth(alloc, 1), truth(alloc, 0))?;
     let term = or(alloc, inner, truth(alloc, 0))?;
-    assert_eq!(rt; found(alloc, &term, DEEP)?, Some((1, 2)));
-    assert_eq!(rt; found(alloc, &term, 2)?, None);
-    Ok(())
-}
-
-#[test]
-fn a_variable_without_a_value_has_none(rt: HostRuntime) -> Result<(), Fail> {
-    let alloc = rt.alloc();
-    let mut arms = Items::new(alloc);
-    arms.push(truth(alloc, 0))?;
-    arms.push(truth(alloc, 1))?;
-    let term = Term::Match {
-        on: Boxed::new(alloc, Term::Free(0))?,
-        datatype: 0,
-        types: Items::new(alloc),
-        arms,
-    };
-    assert_eq!(rt; found(alloc, &term, DEEP)?, None);
+    for (fuel, result) in [(DEEP, Some((1, 2))), (2, None)] {
+        assert_eq!(rt; found(alloc, &term, fuel)?, result, "fuel {fuel}");
+    }
+    assert_eq!(rt; found(alloc, &Term::Free(0), DEEP)?, None);
     Ok(())
 }

@@ -22,10 +22,9 @@ pub(crate) struct AllEvaluated {
     pub(crate) calls: u64,
 }
 
-/// A copy of the value. It takes memory, and fails only where there is none; its calls nest as deep as the
-/// value.
+/// A copy of the value. Its calls nest as deep as the value.
 #[cycle(copy_value)]
-pub(crate) fn copy_value(alloc: Global, value: &Value) -> Result<Value, NoMemory>
+fn copy_value(alloc: Global, value: &Value) -> Result<Value, NoMemory>
     ensures { IfOk result (λ r. r ≡ value.now) }
 {
     match value {
@@ -42,7 +41,7 @@ pub(crate) fn copy_value(alloc: Global, value: &Value) -> Result<Value, NoMemory
     }
 }
 
-/// A copy of each value, in order. It takes memory, and fails only where there is none.
+/// A copy of each value, in order.
 #[cycle(copy_value)]
 fn copy_values(alloc: Global, values: &[Value]) -> Result<Items<Value>, NoMemory>
     ensures { IfOk result (λ r. r ≡ values.now) }

@@ -26,7 +26,7 @@ use std::alloc::Global;
 
 /// The children of the cases of a variable: a sequent for each constructor of its datatype, in order.
 /// Rejected exactly where the variable is not live, its type is no datatype, or a child is over the limits of
-/// sequents. It takes memory.
+/// sequents.
 pub(crate) fn cases(
     alloc: Global,
     program: &Program,

@@ -22,7 +22,7 @@ use std::alloc::Global;
 
 /// The clause of a declared obligation. Rejected exactly where it has none: there is no such lemma, or no such
 /// definition, the property is neither commutativity nor idempotence, or the definition's last two parameters
-/// are not of one type, which for idempotence is the result's. It takes memory.
+/// are not of one type, which for idempotence is the result's.
 pub(crate) fn clause_of(
     alloc: Global,
     program: &Program,

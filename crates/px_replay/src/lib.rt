@@ -1,6 +1,7 @@
 //! Replay of derivations. `replay_text` reads the text of a derivation of a program: a stack of open
 //! sequents, of which each row takes the top one. Rows are read and applied one after the other, and no
-//! tree is built. What a derivation is stands in px_terms.
+//! tree is built. What a derivation is stands in px_terms. What is handed `alloc` and answers a `Result`
+//! takes memory, and answers that there was none where that is so; nothing else takes any.
 #![tactic(auto)]
 
 mod cases;
@@ -12,5 +13,7 @@ mod replay;
 mod rows;
 mod small;
 mod steps;
+#[cfg(test)]
+mod tests;
 
 pub use replay::{Accepted, ReplayEnd, replay_text};

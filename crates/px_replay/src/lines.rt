@@ -25,8 +25,8 @@ pub(crate) enum RowEnd {
 /// A row that was read, and the text after its line feed.
 #[derive(Drop)]
 pub(crate) struct ReadRow<'a> {
-    pub row: Row,
-    pub rest: &'a [u8],
+    pub(crate) row: Row,
+    pub(crate) rest: &'a [u8],
 }
 
 /// The number that the text begins with, up to the end of the line, and the text after the line.
@@ -110,128 +110,5 @@ pub(crate) fn read_row(alloc: Global, text: &[u8]) -> Result<ReadRow<'_>, RowEnd
     match numbered_row(alloc, text) {
         Some((row, rest)) => Ok(ReadRow { row, rest }),
         None => Err(RowEnd::NotARow),
-    }
-}
-
-#[cfg(test)]
-mod tests {
-    use super::*;
-    use px_terms::{Side, Target};
-
-    fn is_refused(alloc: Global, text: &[u8]) -> bool {
-        match read_row(alloc, text) {
-            Ok(_) => false,
-            Err(end) => end == RowEnd::NotARow,
-        }
-    }
-
-    /// The number of a row that has just one, with its kind as a letter.
-    fn number_of(row: &Row) -> Option<(char, u32)> {
-        match row {
-            Row::Header { obligation, on } => (on.len() == 0).then_some(('g', *obligation)),
-            Row::Same { alternative } => Some(('s', *alternative)),
-            Row::CaseVar { variable } => Some(('c', *variable)),
-            Row::Step { .. } => None,
-        }
-    }
-
-    fn is_numbered(alloc: Global, text: &[u8], kind: char, number: u32) -> bool {
-        match read_row(alloc, text) {
-            Ok(read) => {
-                number_of(&read.row) == Some((kind, number)) && read.rest == b"next".as_slice()
-            }
-            Err(_) => false,
-        }
-    }
-
-    fn has_step(row: &Row, target: Target, path: &[u32], kind: Kind) -> bool {
-        match row {
-            Row::Step {
-                target: t,
-                path: p,
-                kind: k,
-            } => *t == target && p.as_slice() == path && *k == kind,
-            _ => false,
-        }
-    }
-
-    fn is_step(alloc: Global, text: &[u8], target: Target, path: &[u32], kind: Kind) -> bool {
-        match read_row(alloc, text) {
-            Ok(read) => {
-                has_step(&read.row, target, path, kind) && read.rest == b"next".as_slice()
-            }
-            Err(_) => false,
-        }
-    }
-
-    #[test]
-    fn reads_rows_with_a_number(rt: HostRuntime) {
-        let alloc = rt.alloc();
-        assert!(rt; is_numbered(alloc, b"goal 0\nnext", 'g', 0));
-        assert!(rt; is_numbered(alloc, b"same 10\nnext", 's', 10));
-        assert!(rt; is_numbered(alloc, b"case 4294967295\nnext", 'c', 4294967295));
-    }
-
-    #[test]
-    fn reads_steps(rt: HostRuntime) {
-        let alloc = rt.alloc();
-        let (number, side) = (0, Side::Left);
-        let left = Target::Alternative { number, side };
-        let (number, side) = (31, Side::Right);
-        let right = Target::Fact { number, side };
-        let (number, left_to_right) = (7, true);
-        let along = Kind::Fact {
-            number,
-            left_to_right,
-        };
-        let (number, left_to_right) = (0, false);
-        let back = Kind::Fact {
-            number,
-            left_to_right,
-        };
-        let unfold = b"step a0l / unfold\nnext";
-        let select = b"step f31r /0 select\nnext";
-        let compare = b"step a0l /0/12 compare\nnext";
-        let rewrite = b"step f31r / fact 7 lr\nnext";
-        let deep = b"step a0l /9/8/7/6/5/4/3/2/1/0 fact 0 rl\nnext";
-        assert!(rt; is_step(alloc, unfold, left, &[], Kind::Unfold));
-        assert!(rt; is_step(alloc, select, right, &[0], Kind::Select));
-        assert!(rt; is_step(alloc, compare, left, &[0, 12], Kind::Compare));
-        assert!(rt; is_step(alloc, rewrite, right, &[], along));
-        assert!(rt; is_step(alloc, deep, left, &[9, 8, 7, 6, 5, 4, 3, 2, 1, 0], back));
-    }
-
-    #[test]
-    fn refuses_what_is_no_line_of_a_row(rt: HostRuntime) {
-        let texts: [&[u8]; 22] = [
-            b"",
-            b"\n",
-            b"goal 0",
-            b"goal 00\n",
-            b"goal 01\n",
-            b"goal  0\n",
-            b"goal 0 \n",
-            b"goal 0\r\n",
-            b"goal\n",
-            b"goal 0 on 0\n",
-            b"goal 4294967296\n",
-            b" same 0\n",
-            b"Same 0\n",
-            b"note 0\n",
-            b"same -1\n",
-            b"step a0l  / unfold\n",
-            b"step a0l // unfold\n",
-            b"step a0l /0/ unfold\n",
-            b"step a0l / unfold \n",
-            b"step a0l / Unfold\n",
-            b"step a0 / unfold\n",
-            b"step a0l / fact 0\n",
-        ];
-        for text in texts {
-            assert!(rt;
-                is_refused(rt.alloc(), text),
-                "a text that is no line of a row"
-            );
-        }
     }
 }

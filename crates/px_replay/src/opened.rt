@@ -16,7 +16,7 @@ pub(crate) struct Open {
 }
 
 impl Open {
-    /// The first sequent of an obligation. It takes no memory.
+    /// The first sequent of an obligation.
     pub(crate) fn first(sequent: Sequent) -> Open
         ensures sequent { result.sequent ≡ sequent }
         ensures marked { IsRightlyMarked result }
@@ -25,7 +25,7 @@ impl Open {
         Open { sequent, is_within }
     }
 
-    /// A child of a row. It takes no memory.
+    /// A child of a row.
     pub(crate) fn child(sequent: Sequent) -> Open
         requires { IsWithinLimits sequent }
         ensures { result ≡ child_within sequent }

@@ -64,7 +64,7 @@ pub struct Accepted {
 /// Replays the text of a derivation of the program: a header and the rows of a tree for each obligation, in
 /// order, and nothing more. Rejected exactly where the text is no derivation, of a program whose variables and
 /// constructors can be numbered. It keeps the open sequents of one tree on a stack, and looks at each byte
-/// once. It takes memory.
+/// once.
 pub fn replay_text(alloc: Global, program: &Program, text: &[u8]) -> Result<Accepted, ReplayEnd>
     ensures accepted { IfOk result (λ _. IsDerivationText program.now text.now) }
     ensures count { IfOk result (λ accepted. accepted.obligations ≡ length program.now.declared) }

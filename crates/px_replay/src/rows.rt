@@ -20,7 +20,7 @@ use sqlite_items::{Items, at};
 use std::alloc::Global;
 
 /// Applies a row to a sequent of obligation `number`, and puts its children on the stack, the first on top.
-/// Rejected exactly where the row does not apply. It takes memory.
+/// Rejected exactly where the row does not apply.
 pub(crate) fn open_sequent(
     alloc: Global,
     program: &Program,

@@ -17,11 +17,8 @@ use px_terms::{
 use sqlite_items::at;
 use std::alloc::Global;
 
-#[cfg(test)]
-mod tests;
-
 /// The term that a step of this kind at this path makes of a side. Rejected exactly where there is no such step,
-/// or where its result is over the limits of a sequent. It takes memory.
+/// or where its result is over the limits of a sequent.
 pub(crate) fn stepped(
     alloc: Global,
     program: &Program,
