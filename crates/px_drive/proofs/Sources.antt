@@ -1,5 +1,5 @@
 -- Each layer of a text is one, so the text is one program, or has one fault.
-use Rattle.std.proofs.Common.{◌≡◌, ◌∙◌, ℕ, suc, List, [], ◌∷◌, Contains, Option, Some, None, ◌⊎◌, inl, inr, Result, Ok, Err, IsErrAnd, arith, refl, ap, sym, subst}
+use Rattle.std.proofs.Common.{◌≡◌, ◌∙◌, ℕ, ◌<◌, suc, length, List, [], ◌∷◌, Contains, Option, Some, None, ◌⊎◌, inl, inr, Result, Ok, Err, IsErrAnd, arith, refl, ap, sym, subst}
 use Rattle.px_terms.specs.declared.program.Program.{Program}
 use Rattle.px_terms.specs.RawProgram.{RawProgram}
 use Rattle.px_soundness.specs.Laws.{DerivationsAreSound}
@@ -144,13 +144,16 @@ accepted_is_true_law plain sound text derivation P source derived = sound P (pla
 one_later : (u : Use) (us : List Use) (other : Use) → Contains us other → Contains (u ∷ us) other
 one_later u us other (k, within, is) = (suc k, omega arith, is)
 
+in_front : (u : Use) (us : List Use) → 0 < length (u ∷ us)
+in_front u us = omega arith
+
 -- the first name that breaks a rule stands in front, or among the later names
 front_or_later : (u : Use) (us : List Use) (kind : ScopeKind) (at : ℕ) (fault : Option ScopeKind) → u.fault ≡ fault → broken_or u.at fault (first_broken us) ≡ Some (record { kind = kind; at = at })
     → (first_broken us ≡ Some (record { kind = kind; at = at }) → Contains us (record { at = at; fault = Some kind })) → Contains (u ∷ us) (record { at = at; fault = Some kind })
 front_or_later u us kind at None is first there = one_later u us (record { at = at; fault = Some kind }) (there first)
 front_or_later u us kind at (Some broken) is first there =
     let here : record { kind = broken; at = u.at } ≡ record { kind = kind; at = at } = some_is (record { kind = broken; at = u.at }) (record { kind = kind; at = at }) first in
-    (0, omega arith, λ i. record { at = (here i).at; fault = (is ∙ ap (λ (b : Broken). Some b.kind) here) i })
+    (0, in_front u us, λ i. record { at = (here i).at; fault = (is ∙ ap (λ (b : Broken). Some b.kind) here) i })
   where
     some_is : (one other : Broken) → Some one ≡ Some other → one ≡ other
     some_is one other is = cc

@@ -1,6 +1,6 @@
 -- What the program is for: where it is done, the text is a program, and what was accepted of it is true; where a name is
 -- refused, it is the first to be.
-use Rattle.std.specs.Prelude.{ℕ, List, ⊤, Option, Some, None}
+use Rattle.std.specs.Prelude.{ℕ, List, ⊤, Option, Some, None, MatchOption}
 use Rattle.px_terms.specs.declared.program.Program.{Program}
 use Rattle.px_terms.specs.Obligations.{AllHold}
 use Rattle.px_world.specs.Known.{Told}
@@ -42,8 +42,7 @@ pub record ReadsFirstBroken (known : List ℕ → Option (List ℕ)) (file : Lis
   pub text_is : Told (known file) text
   pub is_first : IsFirstBroken text kind at
 
--- where a line ends with a fault of scope, it is that of the program's file
+-- where a line ends with a fault of scope, it is the first of the program's file
 abbrev pub TellsFirstBroken : (List ℕ → Option (List ℕ)) → Option CommandLine → End → Type 0
-TellsFirstBroken known (Some line) (Source (Scope kind at)) = ReadsFirstBroken known (program_of line) kind at
-TellsFirstBroken known None (Source (Scope kind at)) = ⊥
-TellsFirstBroken known line end = ⊤
+TellsFirstBroken known kept (Source (Scope kind at)) = MatchOption kept ⊥ (λ line. ReadsFirstBroken known (program_of line) kind at)
+TellsFirstBroken known kept _ = ⊤

@@ -1,7 +1,11 @@
 -- What the devices show of a call.
-use Rattle.std.specs.Prelude.{◌≡◌, ◌≤◌, ℕ, List, Bool, Option}
+use Rattle.std.specs.Prelude.{◌≡◌, ◌≤◌, ℕ, List, Bool, Option, Result, Ok, Err}
+use Rattle.std.specs.Io.KnownBytes.{Appends}
+use Rattle.px_world.specs.declared.faults.WriteFault.{WriteFault}
 use Rattle.px_world.specs.declared.files.Files as files
 use Rattle.px_world.specs.declared.sink.Sink as sinks
+use Rattle.px_world.specs.Faults.{Rose}
+use Rattle.px_world.specs.Known.{AppendsPrefix}
 
 -- What files show: the bytes by name before the call, whether a text is open after it and what is left of that text,
 -- and the count of faults before and after. Bytes are given where the files tell them.
@@ -33,3 +37,8 @@ pub record SinkSeen : Type 0 where
 -- what this sink shows of a call, by how it is before and after it
 abbrev pub sink_seen : {S : Type 0} → sinks.Ghosts S → S → S → SinkSeen
 sink_seen S old new = record { old = S.written old; new = S.written new; before = S.faults old; after = S.faults new }
+
+-- these bytes were written whole; or they weren't: then a front of them was, and the count of faults rose
+abbrev pub Writes : List ℕ → SinkSeen → Result (Unit {0}) WriteFault → Type 0
+Writes bytes sink (Ok _) = Appends sink.old sink.new bytes
+Writes bytes sink (Err _) = AppendsPrefix sink.old sink.new bytes × Rose sink.before sink.after

@@ -52,8 +52,9 @@ pub(crate) fn read_source(alloc: Global, bytes: &Bytes) -> Result<Program, End>
     ensures source { Sources bytes.now result }
     ensures numbered { IfOk result HasNumbers }
 {
-    let found = tokens(alloc, bytes.as_slice())?;
-    let surface = parse(alloc, found.as_slice(), bytes.as_slice())?;
+    let text = bytes.as_slice();
+    let found = tokens(alloc, text)?;
+    let surface = parse(alloc, found.as_slice(), text)?;
     let raw = resolve(alloc, &surface)?;
     let program = thin_program(alloc, raw)?;
     Ok(program)

@@ -12,10 +12,10 @@ returns-in_err-program-clause-runs g c = passed_on _ _ c.from_residual-in_err-pr
 
 pub returns-in_err-print_checked-clause-runs : goal.returns-in_err-print_checked-clause-runs
 returns-in_err-print_checked-clause-runs g c =
-    let front = c.in_err-print_checked.ensures.prefix in
+    let front = c.in_err-print_checked.ensures.writes.0 in
     passed_on _ _ c.from_residual-in_err-print_checked.ensures.1 (record {
       printed = _;
-      allowed = inr (_, c.in_ok-text.ensures.reads, inr (_, c.in_ok-program.ensures.source, (c.in_err-print_checked.ensures.fault, (front.0, refl))));
+      allowed = inr (_, c.in_ok-text.ensures.reads, inr (_, c.in_ok-program.ensures.source, (c.in_err-print_checked.ensures.writes.1, (front.0, refl))));
       wrote = front.2;
     })
 
@@ -23,5 +23,5 @@ pub returns-clause-runs : goal.returns-clause-runs
 returns-clause-runs g c = record {
   printed = _;
   allowed = inr (_, c.in_ok-text.ensures.reads, inr (_, c.in_ok-program.ensures.source, refl));
-  wrote = c.in_ok-print_checked.ensures.ok;
+  wrote = c.in_ok-print_checked.ensures.writes;
 }

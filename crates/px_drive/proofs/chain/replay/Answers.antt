@@ -13,7 +13,7 @@ returns-in_err-program-clause-runs g c = passed_on _ _ c.from_residual-in_err-pr
 
 pub returns-in_err-steps-clause-runs : goal.returns-in_err-steps-clause-runs
 returns-in_err-steps-clause-runs g c =
-    let refused = read_later g.F.Files _ _ _ Derivation _ (Err c.in_err-steps.field-0.0) c.in_ok-text.ensures.keeps c.in_err-steps.ensures.reads in
+    let refused = read_later g.F.Files _ _ c.read_text-2.new.files Derivation _ (Err c.in_err-steps.field-0.0) c.in_ok-text.ensures.keeps c.in_err-steps.ensures.reads in
     passed_on _ _ c.from_residual-in_err-steps.ensures.1 (record {
       printed = [];
       allowed = inr (_, c.in_ok-text.ensures.reads, inr (_, c.in_ok-program.ensures.source, inl (refused, refl)));
@@ -22,7 +22,7 @@ returns-in_err-steps-clause-runs g c =
 
 pub returns-in_err-obligations-clause-runs : goal.returns-in_err-obligations-clause-runs
 returns-in_err-obligations-clause-runs g c =
-    let read = read_later g.F.Files _ _ _ Derivation _ (Ok c.in_ok-steps.steps) c.in_ok-text.ensures.keeps c.in_ok-steps.ensures.reads in
+    let read = read_later g.F.Files _ _ c.read_text-2.new.files Derivation _ (Ok c.in_ok-steps.steps) c.in_ok-text.ensures.keeps c.in_ok-steps.ensures.reads in
     passed_on _ _ c.from_residual-in_err-obligations.ensures.1 (record {
       printed = [];
       allowed = inr (_, c.in_ok-text.ensures.reads, inr (_, c.in_ok-program.ensures.source, inr (_, read, inl (c.in_err-obligations.ensures, refl))));
@@ -31,19 +31,19 @@ returns-in_err-obligations-clause-runs g c =
 
 pub returns-in_err-print_accepted-clause-runs : goal.returns-in_err-print_accepted-clause-runs
 returns-in_err-print_accepted-clause-runs g c =
-    let read = read_later g.F.Files _ _ _ Derivation _ (Ok c.in_ok-steps.steps) c.in_ok-text.ensures.keeps c.in_ok-steps.ensures.reads in
-    let front = c.in_err-print_accepted.ensures.prefix in
+    let read = read_later g.F.Files _ _ c.read_text-2.new.files Derivation _ (Ok c.in_ok-steps.steps) c.in_ok-text.ensures.keeps c.in_ok-steps.ensures.reads in
+    let front = c.in_err-print_accepted.ensures.writes.0 in
     passed_on _ _ c.from_residual-in_err-print_accepted.ensures.1 (record {
       printed = _;
-      allowed = inr (_, c.in_ok-text.ensures.reads, inr (_, c.in_ok-program.ensures.source, inr (_, read, inr (c.in_ok-obligations.obligations, c.in_ok-obligations.ensures, (c.in_err-print_accepted.ensures.fault, (front.0, refl))))));
+      allowed = inr (_, c.in_ok-text.ensures.reads, inr (_, c.in_ok-program.ensures.source, inr (_, read, inr (c.in_ok-obligations.obligations, c.in_ok-obligations.ensures, (c.in_err-print_accepted.ensures.writes.1, (front.0, refl))))));
       wrote = front.2;
     })
 
 pub returns-clause-runs : goal.returns-clause-runs
 returns-clause-runs g c =
-    let read = read_later g.F.Files _ _ _ Derivation _ (Ok c.in_ok-steps.steps) c.in_ok-text.ensures.keeps c.in_ok-steps.ensures.reads in
+    let read = read_later g.F.Files _ _ c.read_text-2.new.files Derivation _ (Ok c.in_ok-steps.steps) c.in_ok-text.ensures.keeps c.in_ok-steps.ensures.reads in
     record {
       printed = _;
       allowed = inr (_, c.in_ok-text.ensures.reads, inr (_, c.in_ok-program.ensures.source, inr (_, read, inr (c.in_ok-obligations.obligations, c.in_ok-obligations.ensures, refl))));
-      wrote = c.in_ok-print_accepted.ensures.ok;
+      wrote = c.in_ok-print_accepted.ensures.writes;
     }
