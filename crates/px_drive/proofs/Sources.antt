@@ -28,9 +28,8 @@ use Rattle.px_thin.specs.declared.end.ThinEnd.TheVariants as thin_ends
 use Rattle.px_thin.specs.Thin.{IsThinProgram, OneThinProgram, ThinIsPlain}
 use Rattle.px_thin.specs.Ends.{IsUnlessNoMemory}
 use Rattle.px_drive.specs.declared.outcome.End.{End}
-use Rattle.px_drive.specs.declared.outcome.SourceFault.{SourceFault}
 use Rattle.px_drive.specs.declared.outcome.SourceFault.TheVariants.{Lex, Parse, Scope, Unbuilt}
-use Rattle.px_drive.specs.Sources.{IsSource, IsParseFault, IsScopeFault, IsUnbuilt, IsSourceFault, IsFirstBroken, Sources}
+use Rattle.px_drive.specs.Sources.{IsSource, IsParseFault, IsScopeFault, IsUnbuilt, IsSourceFault, Sources}
 use Rattle.px_drive.specs.Refusals.{end_of_lexing, end_of_parsing, end_of_scoping, end_of_thinning}
 use Rattle.px_drive.specs.Laws.{OneSource, OneSourceFault, NeverBoth, ScopeFaultIsFirst, AcceptedIsTrue}
 

@@ -7,7 +7,6 @@ use Rattle.px_drive.specs.declared.outcome.End.{End}
 use Rattle.px_drive.specs.declared.outcome.End.TheVariants.{Done, Usage, Source, Rejected, ReadFault, WriteFault, NoMemory, TooLong}
 use Rattle.px_drive.specs.declared.outcome.SourceFault.TheVariants.{Lex, Parse, Scope, Unbuilt}
 use Rattle.px_drive.specs.declared.outcome.Outcome.{Outcome}
-use Rattle.px_drive.specs.Lines.{program_of}
 use Rattle.px_drive.specs.Answers.{Ends, Tells, IsAnswer}
 use Rattle.px_drive.specs.Headline.{Headline, TellsFirstBroken}
 use Rattle.px_drive.specs.Laws.{AcceptedIsTrue, ScopeFaultIsFirst}

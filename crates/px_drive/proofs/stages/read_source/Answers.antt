@@ -25,7 +25,7 @@ returns-in_err-program-clause-source c =
     let are_tokens : AreTokens c.as_slice-text.result.now c.as_slice.result.now = rw c.as_slice.ensures c.in_ok-found.ensures.ok in
     rw (← c.as_slice-text.ensures)
     (no_thin _ _ _ _ (Err c.in_err-program.field-0.0) _ c.in_err-program.field-0.0 are_tokens c.in_ok-surface.ensures.ok c.in_ok-raw.ensures.ok
-        refl c.in_err-program.ensures.only c.from_residual-in_err-program.ensures.1)
+    refl c.in_err-program.ensures.only c.from_residual-in_err-program.ensures.1)
 
 pub returns-clause-source : goal.returns-clause-source
 returns-clause-source c = record {
