@@ -10,14 +10,17 @@ use crate::phrase_end::PhraseEnd;
 use crate::rest::Rest;
 use crate::surface::{Item, SClaim, SCon, SData, SDef, SEquation, SFun, SLemma, SReplica, SType};
 use crate::types::{read_type, read_type_arguments, read_types};
-use px_lexer::{Key, Mark};
 use px_base::limits::NESTING;
+use px_lexer::{Key, Mark};
 use sqlite_items::Items;
 use std::alloc::Global;
 
 /// The types of a constructor's fields at the front, none where there is no `(`, and the tokens after them.
 #[tactic(auto, unfolding(crate::specs::Reading::con_fields_at, crate::specs::Reading::opened_at, crate::specs::Reading::between_at, crate::specs::Readers::choice, crate::specs::Readers::bind, crate::specs::Readers::pure))]
-fn read_con_fields<'t>(alloc: Global, tokens: Rest<'t>) -> Result<(Items<SType>, Rest<'t>), PhraseEnd>
+fn read_con_fields<'t>(
+    alloc: Global,
+    tokens: Rest<'t>,
+) -> Result<(Items<SType>, Rest<'t>), PhraseEnd>
     ensures { Gives result (con_fields_at (words tokens.entry)) }
 {
     let Some(rest) = tokens.past(Mark::ParenL) else {

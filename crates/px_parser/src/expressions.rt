@@ -141,7 +141,11 @@ fn read_expressions<'t>(
 /// The match at the front, and the tokens after it.
 #[cycle(expressions)]
 #[tactic(auto, unfolding(crate::specs::Reading::match_at, crate::specs::Reading::match_with, crate::specs::Reading::inside, crate::specs::Reading::between_at, crate::specs::Readers::fail, crate::specs::Readers::bind, crate::specs::Readers::pure))]
-fn read_match<'t>(alloc: Global, room: u32, tokens: Rest<'t>) -> Result<(SExpr, Rest<'t>), PhraseEnd>
+fn read_match<'t>(
+    alloc: Global,
+    room: u32,
+    tokens: Rest<'t>,
+) -> Result<(SExpr, Rest<'t>), PhraseEnd>
     ensures { Gives result (match_at room (words tokens.entry)) }
 {
     if room == 0 {

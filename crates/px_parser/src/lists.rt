@@ -5,8 +5,8 @@ ghost use Rattle.px_parser.specs.Reading.{names_at, lower_at, upper_at, type_par
 use crate::phrase_end::PhraseEnd;
 use crate::rest::Rest;
 use crate::surface::Name;
-use px_lexer::{Key, Mark};
 use px_base::RawProp;
+use px_lexer::{Key, Mark};
 use sqlite_items::Items;
 use std::alloc::Global;
 

@@ -5,8 +5,8 @@ ghost use Rattle.px_parser.specs.Readable.{is_readable};
 
 use crate::phrase_end::PhraseEnd;
 use crate::surface::Name;
-use px_lexer::Token;
 use px_base::Text;
+use px_lexer::Token;
 use std::alloc::Global;
 use std::str;
 

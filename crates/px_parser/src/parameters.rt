@@ -7,8 +7,8 @@ use crate::phrase_end::PhraseEnd;
 use crate::rest::Rest;
 use crate::surface::{SFnType, SParam, SParamKind};
 use crate::types::{read_type, read_types};
-use px_lexer::{Key, Mark};
 use px_base::limits::NESTING;
+use px_lexer::{Key, Mark};
 use sqlite_items::Items;
 use std::alloc::Global;
 

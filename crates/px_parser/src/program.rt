@@ -12,8 +12,8 @@ use crate::parse_end::ParseEnd;
 use crate::phrase_end::PhraseEnd;
 use crate::rest::Rest;
 use crate::surface::Surface;
-use px_lexer::Token;
 use px_base::limits::PROGRAM_BYTES;
+use px_lexer::Token;
 use std::alloc::Global;
 
 /// The tree of the text's tokens, unless memory runs out. A fault where the tokens are no program: at the first token

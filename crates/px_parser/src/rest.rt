@@ -6,8 +6,8 @@ ghost use Rattle.px_parser.specs.Readable.{is_readable};
 use crate::names::name_of;
 use crate::phrase_end::PhraseEnd;
 use crate::surface::{Name, SExpr, SExprKind};
-use px_lexer::{Key, Mark, Token, TokenKind};
 use px_base::RawProp;
+use px_lexer::{Key, Mark, Token, TokenKind};
 use std::alloc::Global;
 
 /// The tokens that are left of a text.
