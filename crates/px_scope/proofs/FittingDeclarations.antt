@@ -7,7 +7,7 @@ use Rattle.std.proofs.lemmas.List.{length-map}
 use Rattle.std.proofs.lemmas.List.Sums.{sum_by-cons}
 use Rattle.std.proofs.lemmas.Option.{slice_get_within}
 use Rattle.std.proofs.lemmas.List.Elements.{All-nil, All-cons, All-head, All-tail, All-weaker, All-push}
-use Rattle.px_base.specs.declared.limits.TheConstants.{NESTING}
+use Rattle.px_base.specs.declared.limits.TheConstants.{NESTING, WRITTEN_DEPTH}
 use Rattle.px_base.specs.declared.raw.RawTy.{RawTy}
 use Rattle.px_base.specs.declared.raw.RawFun.{RawFun}
 use Rattle.px_base.specs.declared.raw.RawTerm.{RawTerm}
@@ -64,9 +64,13 @@ use Rattle.px_scope.proofs.TermSteps.{expr_uses_is}
 use Rattle.px_scope.proofs.FittingTerms.{IsDefined, IsDefinitionIn, IsMeaningIn, IsNamedIn, AreGlobalsIn, AreLocalsIn, all_found, size_of_layer, depth_of_layer, fitting_function, fitting_argument, fitting_layer}
 use Rattle.px_scope.proofs.GroundTerms.{from_is_data, from_is_ground}
 
+-- what nests as in a text nests within the depth that the check of types takes
+within_depth : {n : ℕ} → n ≤ NESTING → n ≤ WRITTEN_DEPTH
+within_depth h = omega (arith, h)
+
 -- each type of a list nests within the limit, and so does the deepest
-types_within : (types : List SType) → All IsTypeWithin types → types_depth types ≤ NESTING
-types_within types all = largest_map-le type_depth NESTING types all
+types_within : (types : List SType) → All IsTypeWithin types → types_depth types ≤ WRITTEN_DEPTH
+types_within types all = within_depth (largest_map-le type_depth NESTING types all)
 
 -- as many constructors are numbered as are written
 pub constructors_count : {G : Globals} {T : TypeLocals} {cons : List SCon} {cs : List RawCon} → AreConstructors G T cons cs → length cs ≡ length cons
@@ -135,7 +139,7 @@ module _ (text : List Item) (G : Globals) (T : TypeLocals) (R : Range) (datatype
       All-cons (IsConIn R) c cs
       (subst (IsConIn R) (sym is) (record {
         few = types_few are (omega arith);
-        fields = fitting_types text G T R datatypes tparams own NESTING are (λ n own_is. fields_fine) (types_within con.fields (All-head IsConWithin con cons within)) (omega arith);
+        fields = fitting_types text G T R datatypes tparams own WRITTEN_DEPTH are (λ n own_is. fields_fine) (types_within con.fields (All-head IsConWithin con cons within)) (omega arith);
       }))
       (constructors_in (with_constructor_name H con) same rest (fine_back here others fine) (All-tail IsConWithin con cons within) (omega arith))
 
@@ -147,9 +151,9 @@ module _ (text : List Item) (G : Globals) (T : TypeLocals) (R : Range) (datatype
       let rest = fine_back params_uses (result_uses ++ props_uses) fine in
       subst (IsFnTypeIn R) (sym is.is) (record {
         few_params = types_few is.are_params (omega arith);
-        params = fitting_types text G T R datatypes tparams own NESTING is.are_params (λ n own_is. fine_front params_uses (result_uses ++ props_uses) fine)
+        params = fitting_types text G T R datatypes tparams own WRITTEN_DEPTH is.are_params (λ n own_is. fine_front params_uses (result_uses ++ props_uses) fine)
             (types_within f.params within.params) (omega arith);
-        result = fitting_type text G T R datatypes tparams own NESTING is.is_result (λ n own_is. fine_front result_uses props_uses rest) within.result (omega arith);
+        result = fitting_type text G T R datatypes tparams own WRITTEN_DEPTH is.is_result (λ n own_is. fine_front result_uses props_uses rest) (within_depth within.result) (omega arith);
         few_props = omega arith;
         props = distinct_properties [] f.props (fine_back result_uses props_uses rest) AreDistinct.none;
       })
@@ -172,7 +176,7 @@ module _ (text : List Item) (G : Globals) (T : TypeLocals) (R : Range) (datatype
       (functions_in_range (with_parameter L p) (types_stay L p.name p.kind ∙ same) rest (fine_back here others fine) (All-tail IsParamWithin p ps within) (omega arith))
 
   values_in : (L : Locals) → L.types ≡ T → {ps : List SParam} {fs : List RawFnType} {ts : List RawTy} → AreParameters G T ps fs ts →
-      first_broken (parameters_uses text G L ps) ≡ None → All IsParamWithin ps → params_size ps < 2 ^ 32 → AreTypesIn R NESTING ts
+      first_broken (parameters_uses text G L ps) ≡ None → All IsParamWithin ps → params_size ps < 2 ^ 32 → AreTypesIn R WRITTEN_DEPTH ts
   values_in L same AreParameters.none fine within small = AreTypesIn.no_types
   values_in L same (AreParameters.function {p = p} {ps = ps} kind is rest) fine within small =
       let here = parameter_uses_of text G L p.name p.kind in
@@ -185,8 +189,8 @@ module _ (text : List Item) (G : Globals) (T : TypeLocals) (R : Range) (datatype
       let here = parameter_uses_of text G L p.name p.kind in
       let others = parameters_uses text G (with_parameter L p) ps in
       AreTypesIn.more_types
-      (fitting_type text G T R datatypes tparams own NESTING is (λ n own_is. value_fine text G T L p s kind same (fine_front here others fine))
-      (subst IsParamKindWithin kind (All-head IsParamWithin p ps within)) (omega arith))
+      (fitting_type text G T R datatypes tparams own WRITTEN_DEPTH is (λ n own_is. value_fine text G T L p s kind same (fine_front here others fine))
+      (within_depth (subst IsParamKindWithin kind (All-head IsParamWithin p ps within))) (omega arith))
       (values_in (with_parameter L p) (types_stay L p.name p.kind ∙ same) rest (fine_back here others fine) (All-tail IsParamWithin p ps within) (omega arith))
 
   parameters_in : (L : Locals) → L.types ≡ T → {ps : List SParam} {fs : List RawFnType} {ts : List RawTy} → AreParameters G T ps fs ts →
@@ -351,7 +355,7 @@ lower_in G Q R globals name m is = record {
 module _ (text : List Item) (H : Globals) (Q : RawProgram) (R : Range) (globals : AreGlobalsIn Q R H) (L : Locals) (locals : AreLocalsIn R 0 L) where
   term_in : (e : SExpr) (t : RawTerm) → IsTerm H L e t → first_broken (expr_uses text H e Data L) ≡ None → IsExprWithin e → expr_size e < 2 ^ 32 → IsWholeTermIn Q R t
   term_in e t is fine within small =
-      fitting_layer text H Q R globals NESTING 0 locals is (ap first_broken (sym (expr_uses_is text H e Data L)) ∙ fine)
+      fitting_layer text H Q R globals WRITTEN_DEPTH 0 locals is (ap first_broken (sym (expr_uses_is text H e Data L)) ∙ fine)
       (omega (arith, depth_of_layer e)) (omega (arith, size_of_layer e))
 
   equation_in : (e : SEquation) (r : RawEquation) → IsEquation H L e r → first_broken (equation_uses text H L e) ≡ None → IsEquationWithin e →
@@ -375,18 +379,18 @@ module _ (text : List Item) (H : Globals) (Q : RawProgram) (R : Range) (globals 
       (equation_in e r is (fine_front here others fine) (All-head IsEquationWithin e es within) (omega arith))
       (equations_in rest (fine_back here others fine) (All-tail IsEquationWithin e es within) (omega arith))
 
-  function_in : (s : SFun) (f : RawFun) → IsFunction H L s f → IsFunWithin s → fun_size s < 2 ^ 32 → IsFunIn R NESTING f
-  function_in s f is within small = fitting_function text H Q R globals NESTING 0 L locals s f is (types_within s.args within) (omega arith)
+  function_in : (s : SFun) (f : RawFun) → IsFunction H L s f → IsFunWithin s → fun_size s < 2 ^ 32 → IsFunIn R WRITTEN_DEPTH f
+  function_in s f is within small = fitting_function text H Q R globals WRITTEN_DEPTH 0 L locals s f is (types_within s.args within) (omega arith)
 
   named_functions_in : {ss : List SFun} {fs : List RawFun} → AreFunctions H L ss fs → first_broken (flat_map (function_uses text H L) ss) ≡ None →
-      All IsFunWithin ss → funs_size ss < 2 ^ 32 → All (IsArgumentIn Q R NESTING) fs
-  named_functions_in AreFunctions.none fine within small = All-nil (IsArgumentIn Q R NESTING)
+      All IsFunWithin ss → funs_size ss < 2 ^ 32 → All (IsArgumentIn Q R WRITTEN_DEPTH) fs
+  named_functions_in AreFunctions.none fine within small = All-nil (IsArgumentIn Q R WRITTEN_DEPTH)
   named_functions_in (AreFunctions.more {f = s} {fs = ss} {g = f} {gs = fs} is rest) fine within small =
       let sizes = funs_size-cons s ss in
       let here = function_uses text H L s in
       let others = flat_map (function_uses text H L) ss in
-      All-cons (IsArgumentIn Q R NESTING) f fs
-      (fitting_argument text H Q R globals NESTING 0 L locals s f is (fine_front here others fine) (types_within s.args (All-head IsFunWithin s ss within)) (omega arith))
+      All-cons (IsArgumentIn Q R WRITTEN_DEPTH) f fs
+      (fitting_argument text H Q R globals WRITTEN_DEPTH 0 L locals s f is (fine_front here others fine) (types_within s.args (All-head IsFunWithin s ss within)) (omega arith))
       (named_functions_in rest (fine_back here others fine) (All-tail IsFunWithin s ss within) (omega arith))
 
 -- all but the last, and the last
@@ -459,7 +463,7 @@ module _ (text : List Item) (G : Globals) (P Q : RawProgram) (agrees : Agrees G 
       let globals : AreGlobalsIn Q R H = lower_in G Q R before d.name (meaning.Definition own (function_count d.params)) itself in
       subst (IsDefIn Q (counts_of P)) (sym is.is) (record {
         parameters = parameters_in text G (type_locals d.tparams) S types tparams (no_own S refl _) (first_locals d.tparams) refl is.are_parameters params_fine within.params (omega arith);
-        result = fitting_type text G (type_locals d.tparams) S types tparams (no_own S refl _) NESTING is.is_result (no_own S refl _) within.result (omega arith);
+        result = fitting_type text G (type_locals d.tparams) S types tparams (no_own S refl _) WRITTEN_DEPTH is.is_result (no_own S refl _) (within_depth within.result) (omega arith);
         body = term_in text H Q R globals (body_locals own d) locals d.body is.body is.is_body body_fine within.body (omega arith);
         few_props = omega arith;
       })
@@ -518,7 +522,7 @@ module _ (text : List Item) (G : Globals) (P Q : RawProgram) (agrees : Agrees G 
       let globals : AreGlobalsIn Q R H = lower_in G Q R (globals_in G P Q R agrees front front_defs (omega arith) (omega arith)) r.name meaning.Replica tt in
       let locals = nothing_in R refl (omega arith) in
       subst (IsReplicaIn Q (counts_of P)) (sym is.is) (record {
-        state = fitting_type text G no_parameters R (omega (arith, agrees.types)) (omega arith) (no_own R refl _) NESTING is.is_state (no_own R refl _) within.state (omega arith);
+        state = fitting_type text G no_parameters R (omega (arith, agrees.types)) (omega arith) (no_own R refl _) WRITTEN_DEPTH is.is_state (no_own R refl _) (within_depth within.state) (omega arith);
         from = term_in text H Q R globals nothing_local locals r.from is.from is.is_from (from_is_data text H nothing_local r.from is.from is.is_from value_fine) within.from (omega arith);
         ground = from_is_ground text H nothing_local r.from is.from is.is_from value_fine;
         merge = function_in text H Q R globals nothing_local locals r.merge is.merge is.is_merge within.merge (omega arith);

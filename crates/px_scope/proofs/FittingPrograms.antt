@@ -33,6 +33,9 @@ use Rattle.px_scope.specs.Declaring.{props_of, constructor_names, with_datatype,
 use Rattle.px_scope.specs.ItemUses.{item_uses, text_uses}
 use Rattle.px_scope.specs.Programs.{IsNext, AreNext, start, IsNumbering}
 use Rattle.px_scope.specs.Answers.{Resolves}
+use Rattle.px_scope.specs.Small.{IsSmall}
+use Rattle.px_scope.proofs.SmallSteps.{small_surface}
+use Rattle.px_scope.proofs.ShortPrograms.{one_longer, short_program}
 use Rattle.px_scope.proofs.FineParts.{fine_front, fine_back}
 use Rattle.px_scope.proofs.FittingDeclarations.{constructors_count, functions_are, IsDeclared, IsMeaningOf, Agrees, IsFront, counts_of, still_defined, data_in, def_in, claim_in, lemma_in, replica_in}
 use Rattle.px_scope.proofs.FittingProperties.{AreClaimed, next_claimed, first_claimed, properties_once}
@@ -206,9 +209,6 @@ agrees_first = record {
       (All-cons (IsDeclared start) (record { datatype = 0; number = 1 }) [] (record { declared = raw_bool; stands = refl; has = omega arith }) (All-nil (IsDeclared start)));
   meanings = All-cons (IsMeaningOf start) meaning.Wle (meaning.Weq ∷ []) tt (All-cons (IsMeaningOf start) meaning.Weq [] tt (All-nil (IsMeaningOf start)));
 }
-
-one_longer : {A : Type 0} (xs : List A) (x : A) → length (xs ++ x ∷ []) ≡ length xs + 1
-one_longer xs x = omega (arith, length-append xs (x ∷ []))
 
 -- What is left of the order after a program's declarations.
 record IsOrdered (P Q : RawProgram) : Type 0 where
@@ -425,7 +425,9 @@ fitting_program surface P size within filled numbering =
     let small : items_size surface.items < 2 ^ 32 = omega arith in
     let ordered = all_ordered surface.items numbering.numbered agrees_first numbering.lawful within filled small in
     let counted = all_counted numbering.numbered in
+    let items : IsSmall surface.items = small_surface surface size filled in
     record {
+      short = short_program surface.items P items.few numbering.numbered;
       bool = (all_extend numbering.numbered).datatypes 0 raw_bool refl;
       order = subst (AreInOrder P bool_alone) (sym ordered.order) ordered.fits;
       properties = all_once surface.items numbering.numbered agrees_first first_claimed numbering.lawful;

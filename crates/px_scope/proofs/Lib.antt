@@ -27,6 +27,7 @@ mod Places
 mod ProgramSteps
 mod PropertySteps
 mod ReplicaSteps
+mod ShortPrograms
 mod SmallSteps
 mod StateSteps
 mod Sublists
