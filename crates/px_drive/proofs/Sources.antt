@@ -161,8 +161,8 @@ first_is_there : (uses : List Use) (kind : ScopeKind) (at : ℕ) → first_broke
 first_is_there [] kind at first = cc
 first_is_there (u ∷ us) kind at first = front_or_later u us kind at u.fault refl first (first_is_there us kind at)
 
-pub scope_fault_is_first_law : scope.NamesRise → scope.FaultIsFirst → ScopeFaultIsFirst
-scope_fault_is_first_law names_rise fault_is_first text kind at fault = record {
+pub scope_fault_is_first_law : scope.NamesRise → scope.FaultIsFirst → scope.EachNameIsListed → ScopeFaultIsFirst
+scope_fault_is_first_law names_rise fault_is_first each_name_is_listed text kind at fault = record {
   tokens = fault.tokens;
   surface = fault.surface;
   are_tokens = fault.are_tokens;
@@ -170,6 +170,7 @@ scope_fault_is_first_law names_rise fault_is_first text kind at fault = record {
   rise = names_rise text fault.tokens fault.surface fault.are_tokens fault.is_tree;
   breaks = first_is_there (text_uses fault.surface.items) kind at fault.is_fault.first;
   first = fault_is_first text fault.tokens fault.surface (record { kind = kind; at = at }) fault.are_tokens fault.is_tree fault.is_fault;
+  each = λ t there named up_to. each_name_is_listed text fault.tokens fault.surface fault.are_tokens fault.is_tree t there named (subst (scope.IsUpTo t.start) (sym fault.is_fault.first) up_to);
 }
 
 -- a text that has no tokens is no program

@@ -31,7 +31,7 @@ OneSourceFault = (text : List ℕ) (one other : SourceFault) → IsSourceFault t
 abbrev pub NeverBoth : Type 0
 NeverBoth = (text : List ℕ) (P : Program) (fault : SourceFault) → IsSource text P → IsSourceFault text fault → ⊥
 
--- a fault of scope is the first by byte: a name of the text's tree breaks that rule there, and none breaks a rule before
+-- a fault of scope is the first by byte: a name of the text breaks that rule there, and none breaks a rule before
 abbrev pub ScopeFaultIsFirst : Type 0
 ScopeFaultIsFirst = (text : List ℕ) (kind : ScopeKind) (at : ℕ) → IsSourceFault text (Scope kind at) → IsFirstBroken text kind at
 

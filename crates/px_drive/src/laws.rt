@@ -5,7 +5,7 @@ ghost use Rattle.px_drive.specs.Laws.{OneSource, OneSourceFault, NeverBoth, Scop
 
 use px_lexer::one_list;
 use px_parser::one_tree;
-use px_scope::{fault_is_first, names_rise, one_numbering};
+use px_scope::{each_name_is_listed, fault_is_first, names_rise, one_numbering};
 use px_soundness::derivations_are_sound;
 use px_thin::{one_thin_program, thin_is_plain};
 
@@ -46,12 +46,13 @@ pub fn never_both()
     px_scope::never_both();
 }
 
-/// A fault of scope is at the least byte of the text at which a name of its tree breaks a rule.
+/// A fault of scope is at the least byte of the text at which a name breaks a rule.
 pub fn scope_fault_is_first()
     ensures { ScopeFaultIsFirst }
 {
     names_rise();
     fault_is_first();
+    each_name_is_listed();
 }
 
 /// A derivation of the program of a text shows that each of its obligations holds.
