@@ -2,7 +2,7 @@
 -- its place and may stand there, the lists can be counted by words of 32 bits, and types and terms nest within the limit.
 use Rattle.std.specs.Prelude.{◌≡◌, ℕ, suc, ◌+◌, ◌<◌, ◌^◌, ◌==◌, List, [], ◌∷◌, ◌++◌, map, sum, length, Option, Some, None, All, if◌then◌else◌}
 use Rattle.std.specs.List.{slice_get, flat_map}
-use Rattle.px_base.specs.declared.limits.TheConstants.{NESTING}
+use Rattle.px_base.specs.declared.limits.TheConstants.{WRITTEN_DEPTH}
 use Rattle.px_base.specs.declared.head.Head.{Head}
 use Rattle.px_base.specs.declared.head.Head.TheVariants.{Def, Wle, Weq, FnVar}
 use Rattle.px_base.specs.declared.raw.Decl.{Decl}
@@ -155,9 +155,9 @@ mutual
     more_arms : {most bound : ℕ} {a : RawArm} {arms : List RawArm} → IsConstructorIn P R a.datatype a.con → IsShort a.vars →
         IsTermIn P R most (bound + length a.vars) (out-RawKind a.body.kind) → AreArmsIn P R most bound arms → AreArmsIn P R most bound (a ∷ arms)
 
--- the term is in the range, with at most NESTING levels
+-- the term is in the range, with at most WRITTEN_DEPTH levels
 abbrev pub IsWholeTermIn : RawProgram → Range → RawTerm → Type 0
-IsWholeTermIn P R t = IsTermIn P R NESTING 0 (out-RawKind t.kind)
+IsWholeTermIn P R t = IsTermIn P R WRITTEN_DEPTH 0 (out-RawKind t.kind)
 
 mutual
   -- a replica's first value is built of constructors and literals alone
@@ -185,7 +185,7 @@ own_range C raw = record (type_range (C.datatypes + 1) raw.tparams) { own = Some
 -- The fields of a constructor are in the range.
 pub record IsConIn (R : Range) (raw : RawCon) : Type 0 where
   pub few : IsShort raw.fields
-  pub fields : AreTypesIn R NESTING raw.fields
+  pub fields : AreTypesIn R WRITTEN_DEPTH raw.fields
 
 -- The datatype has a constructor, and its fields are in the range, in which it stands itself.
 pub record IsDataIn (C : Counts) (raw : RawData) : Type 0 where
@@ -196,8 +196,8 @@ pub record IsDataIn (C : Counts) (raw : RawData) : Type 0 where
 -- The function type is in the range.
 pub record IsFnTypeIn (R : Range) (raw : RawFnType) : Type 0 where
   pub few_params : IsShort raw.params
-  pub params : AreTypesIn R NESTING raw.params
-  pub result : IsTypeIn R NESTING raw.result
+  pub params : AreTypesIn R WRITTEN_DEPTH raw.params
+  pub result : IsTypeIn R WRITTEN_DEPTH raw.result
   pub few_props : IsShort raw.props
   pub props : AreProperties raw.props
 
@@ -206,7 +206,7 @@ pub record AreParametersIn (R : Range) (funs : List RawFnType) (types : List Raw
   pub few_functions : IsShort funs
   pub functions : All (IsFnTypeIn R) funs
   pub few_values : IsShort types
-  pub values : AreTypesIn R NESTING types
+  pub values : AreTypesIn R WRITTEN_DEPTH types
 
 -- what the body of a definition may name: its functions and its parameters, and in call position the definition too
 abbrev pub body_range : Counts → RawDef → Range
@@ -215,7 +215,7 @@ body_range C raw = record { datatypes = C.datatypes; own = None; called = C.defs
 -- The definition's signature and body are in the range.
 pub record IsDefIn (P : RawProgram) (C : Counts) (raw : RawDef) : Type 0 where
   pub parameters : AreParametersIn (type_range C.datatypes raw.tparams) raw.funs raw.params
-  pub result : IsTypeIn (type_range C.datatypes raw.tparams) NESTING raw.result
+  pub result : IsTypeIn (type_range C.datatypes raw.tparams) WRITTEN_DEPTH raw.result
   pub body : IsWholeTermIn P (body_range C raw) raw.body
   pub few_props : IsShort raw.props
 
@@ -246,12 +246,12 @@ replica_range C = record { datatypes = C.datatypes; own = None; called = C.defs;
 
 -- The replica's parts are in the range, and its first value is built of constructors and literals alone.
 pub record IsReplicaIn (P : RawProgram) (C : Counts) (raw : RawReplica) : Type 0 where
-  pub state : IsTypeIn (replica_range C) NESTING raw.state
+  pub state : IsTypeIn (replica_range C) WRITTEN_DEPTH raw.state
   pub from : IsWholeTermIn P (replica_range C) raw.from
   pub ground : IsGround (out-RawKind raw.from.kind)
-  pub merge : IsFunIn (replica_range C) NESTING raw.merge
+  pub merge : IsFunIn (replica_range C) WRITTEN_DEPTH raw.merge
   pub few_funs : IsShort raw.funs
-  pub funs : All (IsArgumentIn P (replica_range C) NESTING) raw.funs
+  pub funs : All (IsArgumentIn P (replica_range C) WRITTEN_DEPTH) raw.funs
 
 -- These are all declarations of the program.
 pub record AreAll (P : RawProgram) (C : Counts) : Type 0 where
@@ -314,8 +314,18 @@ obligation_count P = def_props P.defs + claim_props P.claims + length P.lemmas
 abbrev pub raw_bool : RawData
 raw_bool = record { at = 0; tparams = 0; cons = record { at = 0; fields = [] } ∷ record { at = 0; fields = [] } ∷ [] }
 
+-- The lists of declarations can be counted by words of 32 bits.
+pub record AreShort (P : RawProgram) : Type 0 where
+  pub order : IsShort P.order
+  pub datatypes : IsShort P.datatypes
+  pub defs : IsShort P.defs
+  pub claims : IsShort P.claims
+  pub lemmas : IsShort P.lemmas
+  pub replicas : IsShort P.replicas
+
 -- The program is as the check of types asks for it.
 pub record IsFitting (P : RawProgram) : Type 0 where
+  pub short : AreShort P
   pub bool : slice_get P.datatypes 0 ≡ Some raw_bool
   pub order : AreInOrder P bool_alone P.order
   pub properties : (n : ℕ) (raw : RawDef) → slice_get P.defs n ≡ Some raw → AreProperties (properties_of P n raw)

@@ -5,6 +5,8 @@
 pub const PROGRAM_BYTES: usize = 262_144;
 /// How many `expr`, `type` and `fntype` parts may be open around a token.
 pub const NESTING: u32 = 200;
+/// The depth of a written type or term that the check of types takes. What a text gives nests no deeper than `NESTING`.
+pub const WRITTEN_DEPTH: u32 = 1_000;
 /// The bytes of a derivation's text.
 pub const DERIVATION_BYTES: usize = 33_554_432;
 /// The bytes of a schedule's text, and of a value's.

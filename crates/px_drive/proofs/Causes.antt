@@ -2,6 +2,7 @@
 use Rattle.std.proofs.Common.{◌≡◌, ◌<◌, ◌≤◌, ℕ, ◌⊎◌, List, length, Option, None, Some, Err, inl, inr, refl, ap, sym, subst, ◌∙◌, arith, length-append}
 use Rattle.std.specs.Io.KnownBytes.{Consumes}
 use Rattle.px_terms.specs.declared.program.Program.{Program as AnyProgram}
+use Rattle.px_world.specs.Faults.{Rose}
 use Rattle.px_world.specs.Known.{Told, IsLonger}
 use Rattle.px_drive.specs.declared.outcome.CommandLine.{CommandLine}
 use Rattle.px_drive.specs.declared.outcome.CommandLine.TheVariants.{Check, Replay}
@@ -9,12 +10,12 @@ use Rattle.px_drive.specs.declared.outcome.Which.TheVariants.{Program, Derivatio
 use Rattle.px_drive.specs.declared.outcome.End.{End}
 use Rattle.px_drive.specs.declared.outcome.End.TheVariants.{Done, Usage, Source, Rejected, ReadFault, WriteFault, NoMemory, TooLong}
 use Rattle.px_drive.specs.declared.outcome.SourceFault.{SourceFault}
-use Rattle.px_drive.specs.Lines.{line_of}
+use Rattle.px_drive.specs.Lines.{line_of, program_of}
 use Rattle.px_drive.specs.Seen.{FilesSeen, SinkSeen}
 use Rattle.px_drive.specs.Ends.{limit_of, ReadsText, Accepts, Prints, AndThen, LineEnds}
 use Rattle.px_drive.specs.Messages.{checked_line, accepted_line}
 use Rattle.px_drive.specs.Sources.{IsSourceFault, Sources}
-use Rattle.px_drive.specs.Laws.{OneSourceFault, NeverBoth, program_of, UsageByWords, DoneOrUsage, EndsAreNamed, IsFaulty, SourceIsFaulty, FaultyIsSource, DoneIsChecked, DoneIsReplayed, RejectedIsRefused, TooLongIsLonger, LongIsTooLong, LongIsNotReplayed, RefusalsPrintNothing}
+use Rattle.px_drive.specs.Laws.{OneSourceFault, NeverBoth, UsageByWords, DoneOrUsage, EndsAreNamed, IsFaulty, SourceIsFaulty, FaultyIsSource, DoneIsChecked, DoneIsReplayed, RejectedIsRefused, TooLongIsLonger, LongIsTooLong, LongIsNotReplayed, RefusalsPrintNothing}
 
 -- what a line does after its program was read
 abbrev Goes : FilesSeen → SinkSeen → CommandLine → AnyProgram → End → List ℕ → Type 0
@@ -286,3 +287,34 @@ module _ (one_fault : OneSourceFault) (never_both : NeverBoth) where
 
   pub faulty_is_source : FaultyIsSource
   faulty_is_source files out line printed text fault end known fits is h = faulty_ends files out line printed text fault end known fits is (begins files out line end printed h)
+
+-- a program that was read goes on to no fault of reading without its cause
+goes_fault : (files : FilesSeen) (out : SinkSeen) (line : CommandLine) (program : AnyProgram) (printed : List ℕ) → Goes files out line program ReadFault printed → Rose files.before files.after
+goes_fault files out (Check file) program printed h = absurd h
+goes_fault files out (Replay file derivation) program printed (inl (reads, _)) = reads.0
+goes_fault files out (Replay file derivation) program printed (inr (bytes, _, inl (h, _))) = absurd h
+goes_fault files out (Replay file derivation) program printed (inr (bytes, _, inr (n, _, h))) = absurd h
+
+read_fault : (files : FilesSeen) (out : SinkSeen) (line : CommandLine) (printed : List ℕ) → Begins files out line ReadFault printed → Rose files.before files.after
+read_fault files out line printed (inl (reads, _)) = reads.0
+read_fault files out line printed (inr (text, _, inl (h, _))) = absurd h
+read_fault files out line printed (inr (text, _, inr (program, _, h))) = goes_fault files out line program printed h
+
+-- a line ends with a fault of reading only where the files' count rose
+pub read_fault_rose : (files : FilesSeen) (out : SinkSeen) (line : CommandLine) (printed : List ℕ) → LineEnds files out line ReadFault printed → Rose files.before files.after
+read_fault_rose files out line printed h = read_fault files out line printed (begins files out line ReadFault printed h)
+
+goes_unwritten : (files : FilesSeen) (out : SinkSeen) (line : CommandLine) (program : AnyProgram) (printed : List ℕ) → Goes files out line program WriteFault printed → Rose out.before out.after
+goes_unwritten files out (Check file) program printed h = h.0
+goes_unwritten files out (Replay file derivation) program printed (inl (h, _)) = absurd h
+goes_unwritten files out (Replay file derivation) program printed (inr (bytes, _, inl (h, _))) = absurd h
+goes_unwritten files out (Replay file derivation) program printed (inr (bytes, _, inr (n, _, h))) = h.0
+
+unwritten : (files : FilesSeen) (out : SinkSeen) (line : CommandLine) (printed : List ℕ) → Begins files out line WriteFault printed → Rose out.before out.after
+unwritten files out line printed (inl (h, _)) = absurd h
+unwritten files out line printed (inr (text, _, inl (h, _))) = absurd h
+unwritten files out line printed (inr (text, _, inr (program, _, h))) = goes_unwritten files out line program printed h
+
+-- a line ends with a fault of writing only where the sink's count rose
+pub write_fault_rose : (files : FilesSeen) (out : SinkSeen) (line : CommandLine) (printed : List ℕ) → LineEnds files out line WriteFault printed → Rose out.before out.after
+write_fault_rose files out line printed h = unwritten files out line printed (begins files out line WriteFault printed h)

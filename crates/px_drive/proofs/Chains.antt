@@ -1,28 +1,53 @@
--- What a later stage of a command shows of the whole call.
-use Rattle.std.proofs.Common.{◌≡◌, ◌≤◌, ℕ, List, Option, Bool, Result, Ok, Err, arith, subst}
+-- The stages of a command: what a `?` passes on, and what a later stage shows of the whole call.
+use Rattle.std.proofs.Common.{◌≡◌, ◌≤◌, ℕ, List, Option, Result, Ok, Err, IsErrAnd, arith, subst, sym}
+use Rattle.px_world.specs.declared.files.Files as files
+use Rattle.px_terms.specs.declared.program.Program.{Program}
+use Rattle.px_terms.specs.Spelling.{IsDerivationText}
+use Rattle.px_replay.specs.declared.replay.ReplayEnd.{ReplayEnd}
+use Rattle.px_replay.specs.declared.replay.ReplayEnd.TheVariants as replaying
+use Rattle.px_drive.specs.declared.outcome.CommandLine.{CommandLine}
 use Rattle.px_drive.specs.declared.outcome.Which.{Which}
 use Rattle.px_drive.specs.declared.outcome.End.{End}
 use Rattle.px_drive.specs.declared.outcome.End.TheVariants.{Done, Usage, Source, Rejected, ReadFault, WriteFault, NoMemory, TooLong}
-use Rattle.px_drive.specs.Ends.{ReadsText}
+use Rattle.px_drive.specs.Lines.{ReadsLine}
+use Rattle.px_drive.specs.Seen.{FilesSeen, SinkSeen, files_seen, KeepsFiles}
+use Rattle.px_drive.specs.Refusals.{end_of_replaying}
+use Rattle.px_drive.specs.Ends.{ReadsText, Accepts, Runs, end_of}
 
--- a count that rose late in a call rose in the call
-pub ReadsText-earlier : (text : Which) (bytes : List ℕ → Option (List ℕ)) (opened : Bool) (left : Option (List ℕ)) (before mid after : ℕ) (name : List ℕ) (result : Result (List ℕ) End) → before ≤ mid
-    → ReadsText text (record { bytes = bytes; opened = opened; left = left; before = mid; after = after }) name result
-    → ReadsText text (record { bytes = bytes; opened = opened; left = left; before = before; after = after }) name result
-ReadsText-earlier text bytes opened left before mid after name (Ok b) later reads = reads
-ReadsText-earlier text bytes opened left before mid after name (Err (TooLong long)) later reads = reads
-ReadsText-earlier text bytes opened left before mid after name (Err ReadFault) later (rose, came) = (omega arith, came)
-ReadsText-earlier text bytes opened left before mid after name (Err NoMemory) later reads = reads
-ReadsText-earlier text bytes opened left before mid after name (Err Done) later reads = reads
-ReadsText-earlier text bytes opened left before mid after name (Err Usage) later reads = reads
-ReadsText-earlier text bytes opened left before mid after name (Err (Source fault)) later reads = reads
-ReadsText-earlier text bytes opened left before mid after name (Err Rejected) later reads = reads
-ReadsText-earlier text bytes opened left before mid after name (Err WriteFault) later reads = reads
+-- a `?` hands an end on as it is
+pub passed_on : {files : FilesSeen} {out : SinkSeen} {line : CommandLine} (result : Result (Unit {0}) End) (end : End) → IsErrAnd result (λ e. e ≡ end) → Runs files out line end → Runs files out line (end_of result)
+passed_on (Ok done) end is runs = absurd is
+passed_on {files} {out} {line} (Err e) end is runs = subst (Runs files out line) (sym is) runs
+
+-- a word that found no memory leaves the line unread
+pub no_line : (plain : Option CommandLine) (result : Result CommandLine End) → IsErrAnd result (λ end. end ≡ NoMemory) → ReadsLine plain result
+no_line plain (Ok line) is = absurd is
+no_line plain (Err end) is = subst (λ (e : End). ReadsLine plain (Err e)) (sym is) tt
+
+-- bytes that are rejected are no derivation of the program
+pub not_accepted : (program : Program) (bytes : List ℕ) (result : Result ℕ End) (refusal : ReplayEnd) → (IsDerivationText program bytes → refusal ≡ replaying.NoMemory)
+    → IsErrAnd result (λ end. end ≡ end_of_replaying refusal) → Accepts program bytes result
+not_accepted program bytes (Ok n) refusal only is = absurd is
+not_accepted program bytes (Err end) replaying.NoMemory only is = subst (λ (e : End). Accepts program bytes (Err e)) (sym is) tt
+not_accepted program bytes (Err end) replaying.Rejected only is = subst (λ (e : End). Accepts program bytes (Err e)) (sym is) none
+  where
+    none : IsDerivationText program bytes → ⊥
+    none derivation = let differ : replaying.Rejected ≡ replaying.NoMemory = only derivation in cc
 
 -- a later text is read from the files as they stood when the call began
-pub ReadsText-later : (text : Which) (old new : List ℕ → Option (List ℕ)) (opened : Bool) (left : Option (List ℕ)) (before mid after : ℕ) (name : List ℕ) (result : Result (List ℕ) End) → new ≡ old → before ≤ mid
-    → ReadsText text (record { bytes = new; opened = opened; left = left; before = mid; after = after }) name result
-    → ReadsText text (record { bytes = old; opened = opened; left = left; before = before; after = after }) name result
-ReadsText-later text old new opened left before mid after name result same later reads =
-    ReadsText-earlier text old opened left before mid after name result later
-    (subst (λ (b : List ℕ → Option (List ℕ)). ReadsText text (record { bytes = b; opened = opened; left = left; before = mid; after = after }) name result) same reads)
+pub read_later : {F : Type 0} (device : files.Ghosts F) (old mid new : F) (text : Which) (name : List ℕ) (result : Result (List ℕ) End) → KeepsFiles device old mid
+    → ReadsText text (files_seen device mid new) name result → ReadsText text (files_seen device old new) name result
+read_later {F} device old mid new text name result keeps reads = by_result result
+    (subst (λ (bytes : List ℕ → Option (List ℕ)). ReadsText text (record { bytes = bytes; opened = device.is_open new; left = device.rest new; before = device.faults mid; after = device.faults new }) name result) keeps.texts reads)
+  where
+    by_result : (r : Result (List ℕ) End) → ReadsText text (record { bytes = device.bytes_of old; opened = device.is_open new; left = device.rest new; before = device.faults mid; after = device.faults new }) name r
+        → ReadsText text (files_seen device old new) name r
+    by_result (Ok bytes) is = is
+    by_result (Err (TooLong long)) is = is
+    by_result (Err ReadFault) (rose, came) = (let later : device.faults old ≤ device.faults mid = keeps.later in omega arith, came)
+    by_result (Err NoMemory) is = is
+    by_result (Err Done) is = is
+    by_result (Err Usage) is = is
+    by_result (Err (Source fault)) is = is
+    by_result (Err Rejected) is = is
+    by_result (Err WriteFault) is = is

@@ -10,14 +10,14 @@ use Rattle.px_drive.specs.declared.outcome.Which.TheVariants as which
 use Rattle.px_drive.specs.declared.outcome.End.{End}
 use Rattle.px_drive.specs.declared.outcome.End.TheVariants.{Done, Usage, Source, Rejected, ReadFault, WriteFault, NoMemory, TooLong}
 use Rattle.px_drive.specs.declared.outcome.Outcome.{Outcome}
-use Rattle.px_drive.specs.Lines.{line_of}
+use Rattle.px_drive.specs.Lines.{line_of, ReadsLine}
 use Rattle.px_drive.specs.Messages.{checked_line, accepted_line}
 use Rattle.px_drive.specs.Seen.{FilesSeen, SinkSeen}
 use Rattle.px_drive.specs.Ends.{limit_of, ReadsText, Accepts, Prints, LineEnds}
 use Rattle.px_drive.specs.Sources.{IsSource, Sources}
 use Rattle.px_drive.specs.Laws.{OneSource, NeverBoth}
-use Rattle.px_drive.specs.Answers.{EndsUnread, Ends, Tells, IsAnswer}
-use Rattle.px_drive.specs.Completeness.{NoneRose, HasText, CanBeDone, checked, replayed, IsDone}
+use Rattle.px_drive.specs.Answers.{Ends, Tells, IsAnswer}
+use Rattle.px_drive.specs.Completeness.{NoneRose, HasText, CanBeDone, checked, replayed, IsDone, IsComplete}
 use Rattle.px_drive.proofs.Causes.{longer, told_is, not_longer}
 
 -- a text that is told and within its limit is read whole, but for want of memory
@@ -102,7 +102,7 @@ module _ (one_source : OneSource) (never_both : NeverBoth) (files : FilesSeen) (
   line_done _ end printed (checked {file = file} text program has source) ends = check_done file text program end printed has source ends
   line_done _ end printed (replayed {file = file} {derivation = derivation} text steps program has has_steps source derives) ends = replay_done file derivation text steps program end printed has has_steps source derives ends
 
-unread_done : (words : List (List ℕ)) (line : CommandLine) (end : End) → line_of words ≡ Some line → EndsUnread words end → IsDone end
+unread_done : (words : List (List ℕ)) (line : CommandLine) (end : End) → line_of words ≡ Some line → ReadsLine (line_of words) (Err end) → IsDone end
 unread_done words line Usage is none = cc
 unread_done words line NoMemory is h = inr refl
 unread_done words line Done is h = absurd h
@@ -123,6 +123,6 @@ told_stays told err end calm (inl tells) = tells.0
 told_stays told err end calm (inr tells) = absurd (calm tells.2)
 
 -- a plain line whose work can be done ends Done where no count rose, but for want of memory
-pub answer_done : OneSource → NeverBoth → (words : List (List ℕ)) (files : FilesSeen) (out err : SinkSeen) (outcome : Outcome) → IsAnswer words files out err outcome → (line : CommandLine) → line_of words ≡ Some line → CanBeDone files line → NoneRose files out err → IsDone outcome.end
+pub answer_done : OneSource → NeverBoth → (words : List (List ℕ)) (files : FilesSeen) (out err : SinkSeen) (outcome : Outcome) → IsAnswer words files out err outcome → IsComplete words files out err outcome.end
 answer_done one_source never_both words files out err outcome answer line is can calm =
     subst IsDone (sym (told_stays answer.told err outcome.end calm.err_rests answer.tells)) (allowed_done one_source never_both words files out err outcome.line answer.told line calm is can answer.allowed)

@@ -1,12 +1,21 @@
 -- Lines that are written in pieces.
-use Rattle.std.proofs.Common.{◌≡◌, ◌≤◌, ◌<◌, ◌+◌, ℕ, List, ◌++◌, length, take, drop, get_or, Option, Bor, arith, subst, sym, ◌∙◌, ap, length-append, take-append-drop, drop-cons, suc}
+use Rattle.std.proofs.Common.{◌≡◌, ◌≤◌, ◌<◌, ◌+◌, ℕ, List, ◌++◌, length, take, drop, get_or, Option, Result, Ok, Err, OnOk, OnErr, Bor, arith, subst, sym, ◌∙◌, ap, length-append, take-append-drop, drop-cons, suc}
 use Rattle.std.proofs.lemmas.List.{take-append-le}
 use Rattle.std.proofs.lemmas.Grind.{flat_map-append}
 use Rattle.std.proofs.Math.Seq.{take-append-add}
 use Rattle.std.proofs.KnownBytes.{Appends-trans}
 use Rattle.std.specs.Io.KnownBytes.{Appends}
+use Rattle.px_world.specs.declared.faults.WriteFault.{WriteFault}
+use Rattle.px_world.specs.Faults.{Rose}
 use Rattle.px_world.specs.Known.{AppendsPrefix}
+use Rattle.px_drive.specs.Seen.{SinkSeen, Writes}
 use Rattle.px_drive.specs.Messages.{bytes_of_all}
+
+-- what a call that writes bytes says of each answer is what it says of its result
+pub writes_of : (bytes : List ℕ) (sink : SinkSeen) (result : Result (Unit {0}) WriteFault) → OnOk result (Appends sink.old sink.new bytes) → OnErr result (AppendsPrefix sink.old sink.new bytes)
+    → OnErr result (Rose sink.before sink.after) → Writes bytes sink result
+writes_of bytes sink (Ok done) whole front rose = whole
+writes_of bytes sink (Err fault) whole front rose = (front, rose)
 
 -- these pieces were written, and the count of faults did not fall
 pub record WroteSome (old now : Option (List ℕ)) (before after : ℕ) (pieces : List (Bor (List ℕ))) : Type 0 where

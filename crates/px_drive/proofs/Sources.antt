@@ -1,26 +1,37 @@
 -- Each layer of a text is one, so the text is one program, or has one fault.
-use Rattle.std.proofs.Common.{◌≡◌, ℕ, List, ◌⊎◌, inl, inr, Result, Ok, Err, refl, ap, subst}
+use Rattle.std.proofs.Common.{◌≡◌, ◌∙◌, ℕ, ◌<◌, suc, length, List, [], ◌∷◌, Contains, Option, Some, None, ◌⊎◌, inl, inr, Result, Ok, Err, IsErrAnd, arith, refl, ap, sym, subst}
 use Rattle.px_terms.specs.declared.program.Program.{Program}
 use Rattle.px_terms.specs.RawProgram.{RawProgram}
 use Rattle.px_soundness.specs.Laws.{DerivationsAreSound}
 use Rattle.px_lexer.specs.declared.token.Token.{Token}
+use Rattle.px_lexer.specs.declared.scan.LexEnd.{LexEnd}
+use Rattle.px_lexer.specs.declared.scan.LexEnd.TheVariants as lexing
 use Rattle.px_lexer.specs.Tokens.{AreTokens}
+use Rattle.px_lexer.specs.Tokens as lexer_tokens
 use Rattle.px_lexer.specs.Laws as lexer
 use Rattle.px_parser.specs.declared.surface.Surface.{Surface}
 use Rattle.px_parser.specs.Faults.{IsProgramOf, IsFaultOf}
+use Rattle.px_parser.specs.declared.parse_end.ParseEnd.{ParseEnd}
+use Rattle.px_parser.specs.declared.parse_end.ParseEnd.TheVariants as parsing
+use Rattle.px_parser.specs.Faults as parser_faults
 use Rattle.px_parser.specs.Laws as parser
 use Rattle.px_scope.specs.declared.ends.ScopeKind.{ScopeKind}
-use Rattle.px_scope.specs.Uses.{Broken}
+use Rattle.px_scope.specs.Uses.{Use, Broken, broken_or, first_broken}
+use Rattle.px_scope.specs.ItemUses.{text_uses}
 use Rattle.px_scope.specs.Programs.{IsNumbering, IsFault as IsBroken}
+use Rattle.px_scope.specs.declared.ends.ScopeEnd.{ScopeEnd}
+use Rattle.px_scope.specs.declared.ends.ScopeEnd.TheVariants as scoping
+use Rattle.px_scope.specs.Answers as scope_answers
 use Rattle.px_scope.specs.Laws as scope
 use Rattle.px_thin.specs.declared.end.ThinEnd.{ThinEnd}
 use Rattle.px_thin.specs.declared.end.ThinEnd.TheVariants as thin_ends
 use Rattle.px_thin.specs.Thin.{IsThinProgram, OneThinProgram, ThinIsPlain}
 use Rattle.px_thin.specs.Ends.{IsUnlessNoMemory}
-use Rattle.px_drive.specs.declared.outcome.SourceFault.{SourceFault}
+use Rattle.px_drive.specs.declared.outcome.End.{End}
 use Rattle.px_drive.specs.declared.outcome.SourceFault.TheVariants.{Lex, Parse, Scope, Unbuilt}
-use Rattle.px_drive.specs.Sources.{IsSource, IsParseFault, IsScopeFault, IsUnbuilt, IsSourceFault}
-use Rattle.px_drive.specs.Laws.{OneSource, OneSourceFault, NeverBoth, AcceptedIsTrue}
+use Rattle.px_drive.specs.Sources.{IsSource, IsParseFault, IsScopeFault, IsUnbuilt, IsSourceFault, Sources}
+use Rattle.px_drive.specs.Refusals.{end_of_lexing, end_of_parsing, end_of_scoping, end_of_thinning}
+use Rattle.px_drive.specs.Laws.{OneSource, OneSourceFault, NeverBoth, ScopeFaultIsFirst, AcceptedIsTrue}
 
 -- what is not thin is no thin program
 pub not_thin : (raw : RawProgram) (result : Result Program ThinEnd) → result ≡ Err thin_ends.NotThin → ((P : Program) → IsThinProgram raw P → IsUnlessNoMemory P result) → (P : Program) → ¬ IsThinProgram raw P
@@ -127,3 +138,69 @@ module _ (one_list : lexer.OneList) (lexed_never_both : lexer.NeverBoth) (one_tr
 
 pub accepted_is_true_law : ThinIsPlain → DerivationsAreSound → AcceptedIsTrue
 accepted_is_true_law plain sound text derivation P source derived = sound P (plain source.raw P source.is_thin) derived.trees derived.derivation
+
+-- what stands later among the names stands among them
+one_later : (u : Use) (us : List Use) (other : Use) → Contains us other → Contains (u ∷ us) other
+one_later u us other (k, within, is) = (suc k, omega arith, is)
+
+in_front : (u : Use) (us : List Use) → 0 < length (u ∷ us)
+in_front u us = omega arith
+
+-- the first name that breaks a rule stands in front, or among the later names
+front_or_later : (u : Use) (us : List Use) (kind : ScopeKind) (at : ℕ) (fault : Option ScopeKind) → u.fault ≡ fault → broken_or u.at fault (first_broken us) ≡ Some (record { kind = kind; at = at })
+    → (first_broken us ≡ Some (record { kind = kind; at = at }) → Contains us (record { at = at; fault = Some kind })) → Contains (u ∷ us) (record { at = at; fault = Some kind })
+front_or_later u us kind at None is first there = one_later u us (record { at = at; fault = Some kind }) (there first)
+front_or_later u us kind at (Some broken) is first there =
+    let here : record { kind = broken; at = u.at } ≡ record { kind = kind; at = at } = some_is (record { kind = broken; at = u.at }) (record { kind = kind; at = at }) first in
+    (0, in_front u us, λ i. record { at = (here i).at; fault = (is ∙ ap (λ (b : Broken). Some b.kind) here) i })
+  where
+    some_is : (one other : Broken) → Some one ≡ Some other → one ≡ other
+    some_is one other is = cc
+
+first_is_there : (uses : List Use) (kind : ScopeKind) (at : ℕ) → first_broken uses ≡ Some (record { kind = kind; at = at }) → Contains uses (record { at = at; fault = Some kind })
+first_is_there [] kind at first = cc
+first_is_there (u ∷ us) kind at first = front_or_later u us kind at u.fault refl first (first_is_there us kind at)
+
+pub scope_fault_is_first_law : scope.NamesRise → scope.FaultIsFirst → scope.EachNameIsListed → ScopeFaultIsFirst
+scope_fault_is_first_law names_rise fault_is_first each_name_is_listed text kind at fault = record {
+  tokens = fault.tokens;
+  surface = fault.surface;
+  are_tokens = fault.are_tokens;
+  is_tree = fault.is_tree;
+  rise = names_rise text fault.tokens fault.surface fault.are_tokens fault.is_tree;
+  breaks = first_is_there (text_uses fault.surface.items) kind at fault.is_fault.first;
+  first = fault_is_first text fault.tokens fault.surface (record { kind = kind; at = at }) fault.are_tokens fault.is_tree fault.is_fault;
+  each = λ t there named up_to. each_name_is_listed text fault.tokens fault.surface fault.are_tokens fault.is_tree t there named (subst (scope.IsUpTo t.start) (sym fault.is_fault.first) up_to);
+}
+
+-- a text that has no tokens is no program
+pub no_tokens : (text : List ℕ) (result : Result Program End) (refusal : LexEnd) → IsErrAnd result (λ end. end ≡ end_of_lexing refusal) → lexer_tokens.IsEnd text refusal → Sources text result
+no_tokens text (Ok program) refusal is fault = absurd is
+no_tokens text (Err end) (lexing.Fault at) is fault = subst (λ (e : End). Sources text (Err e)) (sym is) fault
+no_tokens text (Err end) lexing.NoMemory is fault = subst (λ (e : End). Sources text (Err e)) (sym is) tt
+
+-- a text whose tokens have no tree is no program
+pub no_tree : (text : List ℕ) (tokens : List Token) (result : Result Program End) (refusal : ParseEnd) → AreTokens text tokens
+    → IsErrAnd result (λ end. end ≡ end_of_parsing refusal) → parser_faults.IsEnd text tokens refusal → Sources text result
+no_tree text tokens (Ok program) refusal are is fault = absurd is
+no_tree text tokens (Err end) (parsing.Fault at) are is fault =
+    subst (λ (e : End). Sources text (Err e)) (sym is) (record { tokens = tokens; are_tokens = are; is_fault = fault })
+no_tree text tokens (Err end) parsing.NoMemory are is fault = subst (λ (e : End). Sources text (Err e)) (sym is) tt
+
+-- a text whose tree has no numbers for its names is no program
+pub no_numbers : (text : List ℕ) (tokens : List Token) (surface : Surface) (result : Result Program End) (refusal : ScopeEnd) → AreTokens text tokens → IsProgramOf text tokens surface
+    → IsErrAnd result (λ end. end ≡ end_of_scoping refusal) → scope_answers.IsEnd surface refusal → Sources text result
+no_numbers text tokens surface (Ok program) refusal are tree is fault = absurd is
+no_numbers text tokens surface (Err end) (scoping.Fault kind at) are tree is fault =
+    subst (λ (e : End). Sources text (Err e)) (sym is) (record { tokens = tokens; surface = surface; are_tokens = are; is_tree = tree; is_fault = fault })
+no_numbers text tokens surface (Err end) scoping.NoMemory are tree is fault = subst (λ (e : End). Sources text (Err e)) (sym is) tt
+
+-- a text whose numbered program is not thin is no program
+pub no_thin : (text : List ℕ) (tokens : List Token) (surface : Surface) (raw : RawProgram) (thin : Result Program ThinEnd) (result : Result Program End) (refusal : ThinEnd)
+    → AreTokens text tokens → IsProgramOf text tokens surface → IsNumbering surface raw → thin ≡ Err refusal → ((P : Program) → IsThinProgram raw P → IsUnlessNoMemory P thin)
+    → IsErrAnd result (λ end. end ≡ end_of_thinning refusal) → Sources text result
+no_thin text tokens surface raw thin (Ok program) refusal are tree numbers refused only is = absurd is
+no_thin text tokens surface raw thin (Err end) thin_ends.NotThin are tree numbers refused only is =
+    let unbuilt : IsUnbuilt text = record { tokens = tokens; surface = surface; raw = raw; are_tokens = are; is_tree = tree; is_numbering = numbers; is_none = not_thin raw thin refused only } in
+    subst (λ (e : End). Sources text (Err e)) (sym is) unbuilt
+no_thin text tokens surface raw thin (Err end) thin_ends.NoMemory are tree numbers refused only is = subst (λ (e : End). Sources text (Err e)) (sym is) tt

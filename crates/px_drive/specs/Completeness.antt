@@ -9,6 +9,7 @@ use Rattle.px_drive.specs.declared.outcome.Which.{Which}
 use Rattle.px_drive.specs.declared.outcome.Which.TheVariants as which
 use Rattle.px_drive.specs.declared.outcome.End.{End}
 use Rattle.px_drive.specs.declared.outcome.End.TheVariants.{Done, NoMemory}
+use Rattle.px_drive.specs.Lines.{line_of}
 use Rattle.px_drive.specs.Seen.{FilesSeen, SinkSeen}
 use Rattle.px_drive.specs.Ends.{limit_of}
 use Rattle.px_drive.specs.Sources.{IsSource}
@@ -32,3 +33,7 @@ pub data CanBeDone (files : FilesSeen) : CommandLine → Type 0 where
 -- the work is done, but for want of memory
 abbrev pub IsDone : End → Type 0
 IsDone end = (end ≡ Done) ⊎ (end ≡ NoMemory)
+
+-- where no count of faults rose, words that ask for work that can be done end Done, but for want of memory
+abbrev pub IsComplete : List (List ℕ) → FilesSeen → SinkSeen → SinkSeen → End → Type 0
+IsComplete words files out err end = (line : CommandLine) → line_of words ≡ Some line → CanBeDone files line → NoneRose files out err → IsDone end

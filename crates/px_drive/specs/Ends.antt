@@ -66,3 +66,8 @@ pub record Runs (files : FilesSeen) (out : SinkSeen) (line : CommandLine) (end :
   pub printed : List ℕ
   pub allowed : LineEnds files out line end printed
   pub wrote : Appends out.old out.new printed
+
+-- the end of a command whose work is done, or was refused
+abbrev pub end_of : Result (Unit {0}) End → End
+end_of (Ok _) = Done
+end_of (Err end) = end

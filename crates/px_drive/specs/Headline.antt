@@ -1,11 +1,17 @@
--- What the program is for: where it is done, the text is a program, and what was accepted of it is true.
-use Rattle.std.specs.Prelude.{ℕ, List, Option, Some, None}
+-- What the program is for: where it is done, the text is a program, and what was accepted of it is true; where a name is
+-- refused, it is the first to be.
+use Rattle.std.specs.Prelude.{ℕ, List, ⊤, Option, Some, None, MatchOption}
 use Rattle.px_terms.specs.declared.program.Program.{Program}
 use Rattle.px_terms.specs.Obligations.{AllHold}
 use Rattle.px_world.specs.Known.{Told}
+use Rattle.px_scope.specs.declared.ends.ScopeKind.{ScopeKind}
 use Rattle.px_drive.specs.declared.outcome.CommandLine.{CommandLine}
 use Rattle.px_drive.specs.declared.outcome.CommandLine.TheVariants.{Check, Replay}
-use Rattle.px_drive.specs.Sources.{IsSource}
+use Rattle.px_drive.specs.declared.outcome.End.{End}
+use Rattle.px_drive.specs.declared.outcome.End.TheVariants.{Source}
+use Rattle.px_drive.specs.declared.outcome.SourceFault.TheVariants.{Scope}
+use Rattle.px_drive.specs.Lines.{program_of}
+use Rattle.px_drive.specs.Sources.{IsSource, IsFirstBroken}
 
 -- The bytes that were read of a file, which are the file's where these are told, are a program.
 pub record ReadsProgram (known : List ℕ → Option (List ℕ)) (file : List ℕ) : Type 0 where
@@ -28,3 +34,15 @@ abbrev pub Headline : (List ℕ → Option (List ℕ)) → Option CommandLine �
 Headline known None = ⊥
 Headline known (Some (Check file)) = ReadsProgram known file
 Headline known (Some (Replay file derivation)) = ReadsTrue known file
+
+-- The bytes that were read of a file, which are the file's where these are told, have a first name that breaks a rule of
+-- scope: this rule, at this place.
+pub record ReadsFirstBroken (known : List ℕ → Option (List ℕ)) (file : List ℕ) (kind : ScopeKind) (at : ℕ) : Type 0 where
+  pub text : List ℕ
+  pub text_is : Told (known file) text
+  pub is_first : IsFirstBroken text kind at
+
+-- where a line ends with a fault of scope, it is the first of the program's file
+abbrev pub TellsFirstBroken : (List ℕ → Option (List ℕ)) → Option CommandLine → End → Type 0
+TellsFirstBroken known kept (Source (Scope kind at)) = MatchOption kept ⊥ (λ line. ReadsFirstBroken known (program_of line) kind at)
+TellsFirstBroken known kept _ = ⊤

@@ -4,16 +4,18 @@ use Rattle.px_terms.specs.declared.program.Program.{Program}
 use Rattle.px_terms.specs.Obligations.{AllHold}
 use Rattle.px_terms.specs.Spelling.{IsDerivationText}
 use Rattle.px_world.specs.Known.{Told, IsLonger}
+use Rattle.px_scope.specs.declared.ends.ScopeKind.{ScopeKind}
 use Rattle.px_drive.specs.declared.outcome.CommandLine.{CommandLine}
 use Rattle.px_drive.specs.declared.outcome.CommandLine.TheVariants.{Check, Replay}
 use Rattle.px_drive.specs.declared.outcome.Which.TheVariants as which
 use Rattle.px_drive.specs.declared.outcome.End.{End}
 use Rattle.px_drive.specs.declared.outcome.End.TheVariants.{Done, Usage, Source, Rejected, ReadFault, WriteFault, NoMemory, TooLong}
 use Rattle.px_drive.specs.declared.outcome.SourceFault.{SourceFault}
-use Rattle.px_drive.specs.Lines.{line_of}
+use Rattle.px_drive.specs.declared.outcome.SourceFault.TheVariants.{Scope}
+use Rattle.px_drive.specs.Lines.{line_of, program_of}
 use Rattle.px_drive.specs.Messages.{checked_line, accepted_line}
 use Rattle.px_drive.specs.Seen.{FilesSeen, SinkSeen}
-use Rattle.px_drive.specs.Sources.{IsSource, IsSourceFault}
+use Rattle.px_drive.specs.Sources.{IsSource, IsSourceFault, IsFirstBroken}
 use Rattle.px_drive.specs.Ends.{limit_of, LineEnds}
 use Rattle.px_drive.specs.Answers.{Ends}
 
@@ -29,14 +31,13 @@ OneSourceFault = (text : List ℕ) (one other : SourceFault) → IsSourceFault t
 abbrev pub NeverBoth : Type 0
 NeverBoth = (text : List ℕ) (P : Program) (fault : SourceFault) → IsSource text P → IsSourceFault text fault → ⊥
 
+-- a fault of scope is the first by byte: a name of the text breaks that rule there, and none breaks a rule before
+abbrev pub ScopeFaultIsFirst : Type 0
+ScopeFaultIsFirst = (text : List ℕ) (kind : ScopeKind) (at : ℕ) → IsSourceFault text (Scope kind at) → IsFirstBroken text kind at
+
 -- a derivation of the program of a text shows that each of its obligations holds
 abbrev pub AcceptedIsTrue : Type 0
 AcceptedIsTrue = (text derivation : List ℕ) (P : Program) → IsSource text P → IsDerivationText P derivation → AllHold P
-
--- the word of a line that names the file of its program
-abbrev pub program_of : CommandLine → List ℕ
-program_of (Check file) = file
-program_of (Replay file derivation) = file
 
 -- Usage comes only where the words are no plain line, and there nothing else comes but want of memory
 abbrev pub UsageByWords : Type 0

@@ -2,6 +2,7 @@ pub mod Lines
 pub mod Messages
 pub mod Seen
 pub mod Sources
+pub mod Refusals
 pub mod Ends
 pub mod Answers
 pub mod Laws

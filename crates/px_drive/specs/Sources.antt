@@ -1,15 +1,19 @@
 -- Which program a text is, and why it is none: its tokens, their tree, the tree's numbered program, and its thin one.
-use Rattle.std.specs.Prelude.{ℕ, List, ⊤, Result, Ok, Err}
+use Rattle.std.specs.Prelude.{◌≡◌, ℕ, ◌<◌, ◌≤◌, ◌||◌, IsTrue, List, Contains, AllPairs, ⊤, Some, Result, Ok, Err}
 use Rattle.px_terms.specs.declared.program.Program.{Program}
 use Rattle.px_terms.specs.RawProgram.{RawProgram}
 use Rattle.px_lexer.specs.declared.token.Token.{Token}
 use Rattle.px_lexer.specs.Tokens.{AreTokens}
 use Rattle.px_lexer.specs.Tokens as lexer
 use Rattle.px_parser.specs.declared.surface.Surface.{Surface}
+use Rattle.px_parser.specs.Kinds.{is_name, is_property}
 use Rattle.px_parser.specs.Faults.{IsProgramOf, IsFaultOf}
 use Rattle.px_scope.specs.declared.ends.ScopeKind.{ScopeKind}
+use Rattle.px_scope.specs.Uses.{Use}
+use Rattle.px_scope.specs.ItemUses.{text_uses}
 use Rattle.px_scope.specs.Programs.{IsNumbering}
 use Rattle.px_scope.specs.Programs as scope
+use Rattle.px_scope.specs.Laws.{IsListed}
 use Rattle.px_thin.specs.Thin.{IsThinProgram}
 use Rattle.px_drive.specs.declared.outcome.End.{End}
 use Rattle.px_drive.specs.declared.outcome.End.TheVariants.{Source, NoMemory}
@@ -65,3 +69,15 @@ Sources text (Ok program) = IsSource text program
 Sources text (Err (Source fault)) = IsSourceFault text fault
 Sources text (Err NoMemory) = ⊤
 Sources text (Err _) = ⊥
+
+-- At this place a name of the text breaks this rule, and no name that stands before it breaks any: the names of the text's
+-- tree stand one after the other, and each name and each property's word of the text up to this place is among them.
+pub record IsFirstBroken (text : List ℕ) (kind : ScopeKind) (at : ℕ) : Type 0 where
+  pub tokens : List Token
+  pub surface : Surface
+  pub are_tokens : AreTokens text tokens
+  pub is_tree : IsProgramOf text tokens surface
+  pub rise : AllPairs (λ (u v : Use). u.at < v.at) (text_uses surface.items)
+  pub breaks : Contains (text_uses surface.items) (record { at = at; fault = Some kind })
+  pub first : (u : Use) (other : ScopeKind) → Contains (text_uses surface.items) u → u.fault ≡ Some other → at ≤ u.at
+  pub each : (t : Token) → Contains tokens t → IsTrue (is_name t.kind || is_property t.kind) → t.start ≤ at → IsListed t.start (text_uses surface.items)

@@ -1,38 +1,44 @@
-ghost use Rattle.std.specs.Prelude.{◌≡◌, ◌≤◌, All, IsTrue};
+ghost use Rattle.std.specs.Prelude.{◌≤◌, All, IsTrue};
 ghost use Rattle.px_drive.specs.Lines.{files_of};
-ghost use Rattle.px_drive.specs.Ends.{Runs};
+ghost use Rattle.px_drive.specs.Ends.{Runs, end_of};
+ghost use Rattle.px_drive.specs.Seen.{files_seen, sink_seen, KeepsFiles};
 
 use crate::messages::{print_accepted, print_checked};
 use crate::stages::{accept, read_source, read_text};
 use crate::{CommandLine, End, Which};
 use px_terms::Text;
-use px_world::{Files, Sink, WriteFault};
+use px_world::{Files, Sink};
 use std::alloc::Global;
 
-/// Does the work of a line and prints its answer. The line's files must be ones that may be opened, and no
-/// other is. It takes memory for the texts and for the work, and none for what it prints.
-pub fn run_line<F: Files, O: Sink>(
+/// Does the work of a line and prints its answer, and says how it ended. The line's files must be ones that may be
+/// opened, and no other is.
+pub(crate) fn run_line<F: Files, O: Sink>(
     alloc: Global,
     line: &CommandLine,
     files: &mut F,
     out: &mut O,
 ) -> End
     requires { All (λ name. IsTrue (F.may_open files.old name)) (files_of line.now) }
-    ensures runs { Runs (record {
-      bytes = F.bytes_of files.old;
-      opened = F.is_open files.new;
-      left = F.rest files.new;
-      before = F.faults files.old;
-      after = F.faults files.new;
-    }) (record {
-      old = O.written out.old;
-      new = O.written out.new;
-      before = O.faults out.old;
-      after = O.faults out.new;
-    }) line.now result }
-    ensures texts { F.bytes_of files.new ≡ F.bytes_of files.old }
-    ensures names { F.may_open files.new ≡ F.may_open files.old }
-    ensures files_later { F.faults files.old ≤ F.faults files.new }
+    ensures runs { Runs (files_seen F.Files files.old files.new) (sink_seen O.Sink out.old out.new) line.now result }
+    ensures keeps { KeepsFiles F.Files files.old files.new }
+    ensures out_later { O.faults out.old ≤ O.faults out.new }
+{
+    match do_line(alloc, line, files, out) {
+        Ok(()) => End::Done,
+        Err(end) => end,
+    }
+}
+
+/// Does the work of a line: a row for each command.
+fn do_line<F: Files, O: Sink>(
+    alloc: Global,
+    line: &CommandLine,
+    files: &mut F,
+    out: &mut O,
+) -> Result<(), End>
+    requires { All (λ name. IsTrue (F.may_open files.old name)) (files_of line.now) }
+    ensures runs { Runs (files_seen F.Files files.old files.new) (sink_seen O.Sink out.old out.new) line.now (end_of result) }
+    ensures keeps { KeepsFiles F.Files files.old files.new }
     ensures out_later { O.faults out.old ≤ O.faults out.new }
 {
     match line {
@@ -42,37 +48,22 @@ pub fn run_line<F: Files, O: Sink>(
 }
 
 /// Reads the program, and prints how many datatypes, definitions and obligations it has.
-fn check<F: Files, O: Sink>(alloc: Global, file: &Text, files: &mut F, out: &mut O) -> End
+fn check<F: Files, O: Sink>(
+    alloc: Global,
+    file: &Text,
+    files: &mut F,
+    out: &mut O,
+) -> Result<(), End>
     requires { IsTrue (F.may_open files.old file.now) }
-    ensures runs { Runs (record {
-      bytes = F.bytes_of files.old;
-      opened = F.is_open files.new;
-      left = F.rest files.new;
-      before = F.faults files.old;
-      after = F.faults files.new;
-    }) (record {
-      old = O.written out.old;
-      new = O.written out.new;
-      before = O.faults out.old;
-      after = O.faults out.new;
-    }) (CommandLine.Check file.now) result }
-    ensures texts { F.bytes_of files.new ≡ F.bytes_of files.old }
-    ensures names { F.may_open files.new ≡ F.may_open files.old }
-    ensures files_later { F.faults files.old ≤ F.faults files.new }
+    ensures runs { Runs (files_seen F.Files files.old files.new) (sink_seen O.Sink out.old out.new)
+        (CommandLine.Check file.now) (end_of result) }
+    ensures keeps { KeepsFiles F.Files files.old files.new }
     ensures out_later { O.faults out.old ≤ O.faults out.new }
 {
-    let text = match read_text(alloc, files, file, Which::Program) {
-        Ok(text) => text,
-        Err(end) => return end,
-    };
-    let program = match read_source(alloc, &text) {
-        Ok(program) => program,
-        Err(end) => return end,
-    };
-    match print_checked(out, &program) {
-        Ok(()) => End::Done,
-        Err(WriteFault) => End::WriteFault,
-    }
+    let text = read_text(alloc, files, file, Which::Program)?;
+    let program = read_source(alloc, &text)?;
+    print_checked(out, &program)?;
+    Ok(())
 }
 
 /// Reads the program and the derivation, replays the derivation, and prints how many obligations were
@@ -83,44 +74,18 @@ fn replay<F: Files, O: Sink>(
     derivation: &Text,
     files: &mut F,
     out: &mut O,
-) -> End
+) -> Result<(), End>
     requires file { IsTrue (F.may_open files.old file.now) }
     requires derivation { IsTrue (F.may_open files.old derivation.now) }
-    ensures runs { Runs (record {
-      bytes = F.bytes_of files.old;
-      opened = F.is_open files.new;
-      left = F.rest files.new;
-      before = F.faults files.old;
-      after = F.faults files.new;
-    }) (record {
-      old = O.written out.old;
-      new = O.written out.new;
-      before = O.faults out.old;
-      after = O.faults out.new;
-    }) (CommandLine.Replay file.now derivation.now) result }
-    ensures texts { F.bytes_of files.new ≡ F.bytes_of files.old }
-    ensures names { F.may_open files.new ≡ F.may_open files.old }
-    ensures files_later { F.faults files.old ≤ F.faults files.new }
+    ensures runs { Runs (files_seen F.Files files.old files.new) (sink_seen O.Sink out.old out.new)
+        (CommandLine.Replay file.now derivation.now) (end_of result) }
+    ensures keeps { KeepsFiles F.Files files.old files.new }
     ensures out_later { O.faults out.old ≤ O.faults out.new }
 {
-    let text = match read_text(alloc, files, file, Which::Program) {
-        Ok(text) => text,
-        Err(end) => return end,
-    };
-    let program = match read_source(alloc, &text) {
-        Ok(program) => program,
-        Err(end) => return end,
-    };
-    let steps = match read_text(alloc, files, derivation, Which::Derivation) {
-        Ok(steps) => steps,
-        Err(end) => return end,
-    };
-    let obligations = match accept(alloc, &program, &steps) {
-        Ok(obligations) => obligations,
-        Err(end) => return end,
-    };
-    match print_accepted(out, obligations) {
-        Ok(()) => End::Done,
-        Err(_) => End::WriteFault,
-    }
+    let text = read_text(alloc, files, file, Which::Program)?;
+    let program = read_source(alloc, &text)?;
+    let steps = read_text(alloc, files, derivation, Which::Derivation)?;
+    let obligations = accept(alloc, &program, &steps)?;
+    print_accepted(out, obligations)?;
+    Ok(())
 }

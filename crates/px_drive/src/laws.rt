@@ -1,11 +1,11 @@
 //! What the sources of programs are, and what the table of causes says of every call, as functions whose contracts are
 //! these laws.
 
-ghost use Rattle.px_drive.specs.Laws.{OneSource, OneSourceFault, NeverBoth, AcceptedIsTrue, UsageByWords, DoneOrUsage, EndsAreNamed, SourceIsFaulty, FaultyIsSource, DoneIsChecked, DoneIsReplayed, RejectedIsRefused, TooLongIsLonger, LongIsTooLong, LongIsNotReplayed, RefusalsPrintNothing};
+ghost use Rattle.px_drive.specs.Laws.{OneSource, OneSourceFault, NeverBoth, ScopeFaultIsFirst, AcceptedIsTrue, UsageByWords, DoneOrUsage, EndsAreNamed, SourceIsFaulty, FaultyIsSource, DoneIsChecked, DoneIsReplayed, RejectedIsRefused, TooLongIsLonger, LongIsTooLong, LongIsNotReplayed, RefusalsPrintNothing};
 
 use px_lexer::one_list;
 use px_parser::one_tree;
-use px_scope::one_numbering;
+use px_scope::{each_name_is_listed, fault_is_first, names_rise, one_numbering};
 use px_soundness::derivations_are_sound;
 use px_thin::{one_thin_program, thin_is_plain};
 
@@ -44,6 +44,15 @@ pub fn never_both()
     px_parser::never_both();
     one_numbering();
     px_scope::never_both();
+}
+
+/// A fault of scope is at the least byte of the text at which a name breaks a rule.
+pub fn scope_fault_is_first()
+    ensures { ScopeFaultIsFirst }
+{
+    names_rise();
+    fault_is_first();
+    each_name_is_listed();
 }
 
 /// A derivation of the program of a text shows that each of its obligations holds.

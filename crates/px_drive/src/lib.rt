@@ -4,6 +4,7 @@
 //! stages in the order of its refusals, in `specs/Sources.antt` stands which program a text is and why it is none,
 //! and in `specs/Answers.antt` an outcome is an end of that table.
 //! What a program and a derivation are is left to the crates below, and real files to the program above.
+//! What is handed `alloc` takes memory, and answers `NoMemory` where there is none; nothing else takes any.
 #![tactic(auto)]
 
 mod chain;
@@ -11,9 +12,8 @@ mod command;
 pub mod laws;
 mod line;
 mod messages;
-#[cfg(test)]
-mod name_texts;
 mod outcome;
+mod refusals;
 mod stages;
 #[cfg(test)]
 mod tests;

@@ -1,49 +1,48 @@
 ghost use Rattle.std.specs.Prelude.{◌≡◌, map, string_bytes, IfOk};
-ghost use Rattle.px_drive.specs.Lines.{line_of, check_line, replay_line, is_file};
+ghost use Rattle.px_drive.specs.Lines.{line_of, check_line, replay_line, is_file, ReadsLine};
 
-use crate::CommandLine;
+use crate::{CommandLine, End};
 use px_terms::{NoMemory, Text};
 use std::alloc::Global;
 
-/// The plain line that the words are, or `None` exactly where they are none. It takes memory for the
-/// line's words.
-pub fn read_line(alloc: Global, words: &[String]) -> Result<Option<CommandLine>, NoMemory>
-    ensures { IfOk result (λ line. line ≡ line_of (map string_bytes words.now)) }
+/// The plain line that the words are. `Usage` exactly where they are none.
+pub(crate) fn read_line(alloc: Global, words: &[String]) -> Result<CommandLine, End>
+    ensures { ReadsLine (line_of (map string_bytes words.now)) result }
 {
     match words {
         [command, args @ ..] => match command.as_str() {
             "check" => read_check(alloc, args),
             "replay" => read_replay(alloc, args),
-            _ => Ok(None),
+            _ => Err(End::Usage),
         },
-        [] => Ok(None),
+        [] => Err(End::Usage),
     }
 }
 
 /// The line of `check F`, by the words after `check`.
-fn read_check(alloc: Global, args: &[String]) -> Result<Option<CommandLine>, NoMemory>
-    ensures { IfOk result (λ line. line ≡ check_line (map string_bytes args.now)) }
+fn read_check(alloc: Global, args: &[String]) -> Result<CommandLine, End>
+    ensures { ReadsLine (check_line (map string_bytes args.now)) result }
 {
     match args {
         [file] if names_file(file.as_str()) => {
             let file = copy_word(alloc, file.as_str())?;
-            Ok(Some(CommandLine::Check { file }))
+            Ok(CommandLine::Check { file })
         }
-        _ => Ok(None),
+        _ => Err(End::Usage),
     }
 }
 
 /// The line of `replay F D`, by the words after `replay`.
-fn read_replay(alloc: Global, args: &[String]) -> Result<Option<CommandLine>, NoMemory>
-    ensures { IfOk result (λ line. line ≡ replay_line (map string_bytes args.now)) }
+fn read_replay(alloc: Global, args: &[String]) -> Result<CommandLine, End>
+    ensures { ReadsLine (replay_line (map string_bytes args.now)) result }
 {
     match args {
         [file, derivation] if names_file(file.as_str()) && names_file(derivation.as_str()) => {
             let file = copy_word(alloc, file.as_str())?;
             let derivation = copy_word(alloc, derivation.as_str())?;
-            Ok(Some(CommandLine::Replay { file, derivation }))
+            Ok(CommandLine::Replay { file, derivation })
         }
-        _ => Ok(None),
+        _ => Err(End::Usage),
     }
 }
 

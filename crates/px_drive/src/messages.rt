@@ -1,10 +1,8 @@
-ghost use Rattle.std.specs.Prelude.{◌≡◌, ◌≤◌, ◌++◌, OnOk, OnErr, codes};
+ghost use Rattle.std.specs.Prelude.{◌≡◌, ◌≤◌, ◌++◌, codes};
 ghost use Rattle.std.specs.Fmt.{decimal};
-ghost use Rattle.std.specs.Io.KnownBytes.{Appends};
-ghost use Rattle.px_world.specs.Known.{AppendsPrefix};
-ghost use Rattle.px_world.specs.Faults.{Rose};
 ghost use Rattle.px_drive.specs.Messages.{checked_line, accepted_line, scope_words, source_line, message_of, status_of, bytes_of_all};
 ghost use Rattle.px_drive.specs.Answers.{Tells};
+ghost use Rattle.px_drive.specs.Seen.{sink_seen, Writes};
 
 use crate::{End, Outcome, SourceFault, Which};
 use itoa::Buffer;
@@ -13,7 +11,7 @@ use px_terms::Program;
 use px_world::{Sink, WriteFault, write_all};
 
 /// The status that the program ends with: 0 where the work is done, and a number of its own for each
-/// kind of refusal. It takes no memory.
+/// kind of refusal.
 pub fn status(outcome: &Outcome) -> u8
     ensures { result ≡ status_of outcome.now.end }
 {
@@ -29,52 +27,42 @@ pub fn status(outcome: &Outcome) -> u8
     }
 }
 
-/// Writes the line of an end, with its line feed. Where the work is done there is none. It takes no memory.
-/// `WriteFault` comes only where the sink's count of faults rose, and then a front of the line was written.
+/// Writes the line of an end, with its line feed. Where the work is done there is none.
 fn write_message<E: Sink>(end: End, err: &mut E) -> Result<(), WriteFault>
-    ensures ok { OnOk result (Appends (E.written err.old) (E.written err.new) (message_of end)) }
-    ensures prefix { OnErr result (AppendsPrefix (E.written err.old) (E.written err.new) (message_of end)) }
-    ensures fault { OnErr result (Rose (E.faults err.old) (E.faults err.new)) }
+    ensures writes { Writes (message_of end) (sink_seen E.Sink err.old err.new) result }
     ensures later { E.faults err.old ≤ E.faults err.new }
 {
     match end {
-        End::Done => write_all(err, b""),
-        End::Usage => write_all(err, b"usage: propel check F | replay F D\n"),
+        End::Done => write_line(err, b""),
+        End::Usage => write_line(err, b"usage: propel check F | replay F D\n"),
         End::Source(fault) => write_source(fault, err),
-        End::Rejected => write_all(err, b"rejected\n"),
-        End::ReadFault => write_all(err, b"read fault\n"),
-        End::WriteFault => write_all(err, b"write fault\n"),
-        End::NoMemory => write_all(err, b"no memory\n"),
+        End::Rejected => write_line(err, b"rejected\n"),
+        End::ReadFault => write_line(err, b"read fault\n"),
+        End::WriteFault => write_line(err, b"write fault\n"),
+        End::NoMemory => write_line(err, b"no memory\n"),
         End::TooLong { text } => match text {
-            Which::Program => write_all(err, b"too long: program\n"),
-            Which::Derivation => write_all(err, b"too long: derivation\n"),
+            Which::Program => write_line(err, b"too long: program\n"),
+            Which::Derivation => write_line(err, b"too long: derivation\n"),
         },
     }
 }
 
-/// Writes the line of a text that is no program. It takes no memory. `WriteFault` comes only where the sink's
-/// count of faults rose, and then a front of the line was written.
+/// Writes the line of a text that is no program.
 fn write_source<E: Sink>(fault: SourceFault, err: &mut E) -> Result<(), WriteFault>
-    ensures ok { OnOk result (Appends (E.written err.old) (E.written err.new) (source_line fault)) }
-    ensures prefix { OnErr result (AppendsPrefix (E.written err.old) (E.written err.new) (source_line fault)) }
-    ensures fault { OnErr result (Rose (E.faults err.old) (E.faults err.new)) }
+    ensures writes { Writes (source_line fault) (sink_seen E.Sink err.old err.new) result }
     ensures later { E.faults err.old ≤ E.faults err.new }
 {
     match fault {
         SourceFault::Lex { at } => write_place(b"source: lex at ", at, err),
         SourceFault::Parse { at } => write_place(b"source: parse at ", at, err),
         SourceFault::Scope { kind, at } => write_scope(kind, at, err),
-        SourceFault::Unbuilt => write_all(err, b"source: unbuilt\n"),
+        SourceFault::Unbuilt => write_line(err, b"source: unbuilt\n"),
     }
 }
 
-/// Writes the line of a name that breaks a rule of scope. It takes no memory. `WriteFault` comes only where the
-/// sink's count of faults rose, and then a front of the line was written.
+/// Writes the line of a name that breaks a rule of scope.
 fn write_scope<E: Sink>(kind: ScopeKind, at: u32, err: &mut E) -> Result<(), WriteFault>
-    ensures ok { OnOk result (Appends (E.written err.old) (E.written err.new) (source_line (SourceFault.Scope kind at))) }
-    ensures prefix { OnErr result
-        (AppendsPrefix (E.written err.old) (E.written err.new) (source_line (SourceFault.Scope kind at))) }
-    ensures fault { OnErr result (Rose (E.faults err.old) (E.faults err.new)) }
+    ensures writes { Writes (source_line (SourceFault.Scope kind at)) (sink_seen E.Sink err.old err.new) result }
     ensures later { E.faults err.old ≤ E.faults err.new }
 {
     let mut digits = Buffer::new();
@@ -90,13 +78,9 @@ fn write_scope<E: Sink>(kind: ScopeKind, at: u32, err: &mut E) -> Result<(), Wri
     )
 }
 
-/// Writes these bytes, a place in decimal, and a line feed. It takes no memory. `WriteFault` comes only where the
-/// sink's count of faults rose, and then a front of the line was written.
+/// Writes these bytes, a place in decimal, and a line feed.
 fn write_place<E: Sink>(before: &[u8], at: u32, err: &mut E) -> Result<(), WriteFault>
-    ensures ok { OnOk result (Appends (E.written err.old) (E.written err.new) (before.now ++ (decimal at ++ codes "\n"))) }
-    ensures prefix { OnErr result
-        (AppendsPrefix (E.written err.old) (E.written err.new) (before.now ++ (decimal at ++ codes "\n"))) }
-    ensures fault { OnErr result (Rose (E.faults err.old) (E.faults err.new)) }
+    ensures writes { Writes (before.now ++ (decimal at ++ codes "\n")) (sink_seen E.Sink err.old err.new) result }
     ensures later { E.faults err.old ≤ E.faults err.new }
 {
     let mut digits = Buffer::new();
@@ -116,15 +100,9 @@ fn words(kind: ScopeKind) -> &'static str
 }
 
 /// Writes the line of an end, and answers the end that the command has by then: this one, or a fault of
-/// writing where the line wasn't written whole. Where the work is done nothing is written. It takes no
-/// memory.
-pub fn report<E: Sink>(end: End, err: &mut E) -> End
-    ensures tells { Tells end (record {
-      old = E.written err.old;
-      new = E.written err.new;
-      before = E.faults err.old;
-      after = E.faults err.new;
-    }) result }
+/// writing where the line wasn't written whole. Where the work is done nothing is written.
+pub(crate) fn report<E: Sink>(end: End, err: &mut E) -> End
+    ensures tells { Tells end (sink_seen E.Sink err.old err.new) result }
     ensures later { E.faults err.old ≤ E.faults err.new }
 {
     if end == End::Done {
@@ -136,13 +114,9 @@ pub fn report<E: Sink>(end: End, err: &mut E) -> End
     }
 }
 
-/// Writes how many datatypes, definitions and obligations the program has; `Bool` isn't counted. It takes no memory.
-/// `WriteFault` comes only where the sink's count of faults rose, and then a front of the line was written.
-pub fn print_checked<O: Sink>(out: &mut O, program: &Program) -> Result<(), WriteFault>
-    ensures ok { OnOk result (Appends (O.written out.old) (O.written out.new) (checked_line program.now)) }
-    ensures prefix { OnErr result
-        (AppendsPrefix (O.written out.old) (O.written out.new) (checked_line program.now)) }
-    ensures fault { OnErr result (Rose (O.faults out.old) (O.faults out.new)) }
+/// Writes how many datatypes, definitions and obligations the program has; `Bool` isn't counted.
+pub(crate) fn print_checked<O: Sink>(out: &mut O, program: &Program) -> Result<(), WriteFault>
+    ensures writes { Writes (checked_line program.now) (sink_seen O.Sink out.old out.new) result }
     ensures later { O.faults out.old ≤ O.faults out.new }
 {
     let mut datatypes = Buffer::new();
@@ -164,13 +138,9 @@ pub fn print_checked<O: Sink>(out: &mut O, program: &Program) -> Result<(), Writ
     )
 }
 
-/// Writes how many obligations were accepted. It takes no memory. `WriteFault` comes only where the sink's
-/// count of faults rose, and then a front of the line was written.
-pub fn print_accepted<O: Sink>(out: &mut O, obligations: u32) -> Result<(), WriteFault>
-    ensures ok { OnOk result (Appends (O.written out.old) (O.written out.new) (accepted_line obligations)) }
-    ensures prefix { OnErr result
-        (AppendsPrefix (O.written out.old) (O.written out.new) (accepted_line obligations)) }
-    ensures fault { OnErr result (Rose (O.faults out.old) (O.faults out.new)) }
+/// Writes how many obligations were accepted.
+pub(crate) fn print_accepted<O: Sink>(out: &mut O, obligations: u32) -> Result<(), WriteFault>
+    ensures writes { Writes (accepted_line obligations) (sink_seen O.Sink out.old out.new) result }
     ensures later { O.faults out.old ≤ O.faults out.new }
 {
     let mut digits = Buffer::new();
@@ -180,17 +150,21 @@ pub fn print_accepted<O: Sink>(out: &mut O, obligations: u32) -> Result<(), Writ
     )
 }
 
-/// Writes the pieces one after the other. It takes no memory. `WriteFault` comes only where the sink's
-/// count of faults rose, and then a front of the bytes was written.
+/// Writes the bytes of a line.
+fn write_line<S: Sink>(sink: &mut S, line: &[u8]) -> Result<(), WriteFault>
+    ensures writes { Writes line.now (sink_seen S.Sink sink.old sink.new) result }
+    ensures later { S.faults sink.old ≤ S.faults sink.new }
+{
+    write_all(sink, line)
+}
+
+/// Writes the pieces one after the other.
 fn write_pieces<S: Sink>(sink: &mut S, pieces: &[&[u8]]) -> Result<(), WriteFault>
-    ensures ok { OnOk result (Appends (S.written sink.old) (S.written sink.new) (bytes_of_all pieces.now)) }
-    ensures prefix { OnErr result
-        (AppendsPrefix (S.written sink.old) (S.written sink.new) (bytes_of_all pieces.now)) }
-    ensures fault { OnErr result (Rose (S.faults sink.old) (S.faults sink.new)) }
+    ensures writes { Writes (bytes_of_all pieces.now) (sink_seen S.Sink sink.old sink.new) result }
     ensures later { S.faults sink.old ≤ S.faults sink.new }
 {
     for piece in pieces {
-        if let Err(fault) = write_all(sink, piece) {
+        if let Err(fault) = write_line(sink, piece) {
             return Err(fault);
         }
     }

@@ -1,6 +1,3 @@
-ghost use Rattle.std.specs.Prelude.{◌<◌};
-
-use crate::name_texts::{FAULTS, HIDING, LAWFUL};
 use crate::{CommandLine, drive, status};
 use px_world::{Bytes, MemoryFiles, MemorySink};
 use std::alloc::{AllocError, Global};
@@ -55,16 +52,7 @@ fn text_of(alloc: Global, lines: &[&[u8]]) -> Result<Bytes, Fail> {
     Ok(text)
 }
 
-/// The derivation with other bytes in the place of the line at `place`.
-fn text_with(alloc: Global, place: usize, other: &[u8]) -> Result<Bytes, Fail> {
-    let mut lines = Vec::new(alloc);
-    for (at, line) in LINES.iter().enumerate() {
-        lines.push(if at == place { other } else { *line })?;
-    }
-    text_of(alloc, lines.as_slice())
-}
-
-/// A call of `drive` over a program named `p` and a derivation named `d`, in pieces of so many bytes. The
+/// A call of `drive` over a program named `p` and a derivation named `d`, in pieces of so many bytes, at least one. The
 /// listed calls of the files and writes of the output and of the errors fail.
 #[derive(Clone, Copy)]
 struct Call<'a> {
@@ -99,8 +87,22 @@ const CHECK: Call<'static> = Call {
     failing_errors: &[],
 };
 
+/// Words that are no plain line.
+const OTHER_WORDS: [&[&str]; 10] = [
+    &[],
+    &["check"],
+    &["check", "-p"],
+    &["check", "p", "d"],
+    &["replay"],
+    &["replay", "p"],
+    &["replay", "p", "-d"],
+    &["replay", "p", ""],
+    &["replay", "p", "d", "d"],
+    &["replays", "p", "d"],
+];
+
 /// Texts that are no program, and the lines that refuse them.
-const REFUSED: [(&[u8], &str); 15] = [
+const REFUSED: [(&[u8], &str); 13] = [
     (b"def f(", "source: parse at 6\n"),
     (b"def f(a: Bool,): Bool { a }", "source: parse at 14\n"),
     (b"def f(a: Bool): Bool { a", "source: parse at 24\n"),
@@ -112,14 +114,6 @@ const REFUSED: [(&[u8], &str); 15] = [
     (
         b"def f(a: Bool, a: Bool): Bool { a }",
         "source: scope repeated at 15\n",
-    ),
-    (
-        b"def f(a: Bool, b: Bool): Bool with comm, comm { a }",
-        "source: scope repeated at 41\n",
-    ),
-    (
-        b"def wle(a: Bool): Bool { a }",
-        "source: scope repeated at 4\n",
     ),
     (
         b"def f(a: Bool): Bool { a(a) }",
@@ -142,6 +136,95 @@ const REFUSED: [(&[u8], &str); 15] = [
     ),
 ];
 
+/// Calls over other pieces, files and devices, each with its status, its output and its errors.
+const CALLS: [(Call<'static>, u8, &str, &str); 10] = [
+    (
+        CHECK,
+        0,
+        "checked: datatypes 0, definitions 1, obligations 2\n",
+        "",
+    ),
+    (REPLAY, 0, "accepted 2\n", ""),
+    (
+        Call {
+            piece: 16,
+            ..REPLAY
+        },
+        0,
+        "accepted 2\n",
+        "",
+    ),
+    (
+        Call {
+            program: b"",
+            derivation: b"",
+            ..REPLAY
+        },
+        0,
+        "accepted 0\n",
+        "",
+    ),
+    // The program is opened and read in seven calls; then the derivation is opened, and its second read fails.
+    (
+        Call {
+            piece: 16,
+            failing_calls: &[10],
+            ..REPLAY
+        },
+        8,
+        "",
+        "read fault\n",
+    ),
+    (
+        Call {
+            words: &["replay", "q", "d"],
+            ..REPLAY
+        },
+        8,
+        "",
+        "read fault\n",
+    ),
+    (
+        Call {
+            failing_writes: &[0],
+            ..CHECK
+        },
+        9,
+        "",
+        "write fault\n",
+    ),
+    (
+        Call {
+            failing_writes: &[0],
+            ..REPLAY
+        },
+        9,
+        "",
+        "write fault\n",
+    ),
+    (
+        Call {
+            words: &[],
+            failing_errors: &[0],
+            ..REPLAY
+        },
+        9,
+        "",
+        "",
+    ),
+    // The line is written in pieces, and its second one fails.
+    (
+        Call {
+            program: b"def f(",
+            failing_errors: &[1],
+            ..CHECK
+        },
+        9,
+        "",
+        "source: parse at ",
+    ),
+];
+
 /// Makes the call and compares the status and both outputs, byte for byte.
 fn expect(
     rt: &impl Abort,
@@ -150,18 +233,17 @@ fn expect(
     wanted: u8,
     printed: &str,
     told: &str,
-) -> Result<(), Fail>
-    requires { 0 < call.now.piece }
-{
+) -> Result<(), Fail> {
     let mut words = Vec::new(alloc);
     for word in call.words {
         words.push(String::from_str(alloc, word)?)?;
     }
-    let mut files = MemoryFiles::new(alloc, call.failing_calls, call.piece)?;
+    let piece = call.piece.max(1);
+    let mut files = MemoryFiles::new(alloc, call.failing_calls, piece)?;
     files.add("p", call.program)?;
     files.add("d", call.derivation)?;
-    let mut out = MemorySink::new(alloc, call.failing_writes, call.piece)?;
-    let mut err = MemorySink::new(alloc, call.failing_errors, call.piece)?;
+    let mut out = MemorySink::new(alloc, call.failing_writes, piece)?;
+    let mut err = MemorySink::new(alloc, call.failing_errors, piece)?;
     let outcome = drive(alloc, &words, &mut files, &mut out, &mut err);
     assert_eq!(rt; out.written(), printed.as_bytes());
     assert_eq!(rt; err.written(), told.as_bytes());
@@ -170,73 +252,46 @@ fn expect(
 }
 
 #[test]
-fn a_program_is_checked(rt: HostRuntime) -> Result<(), Fail> {
-    let counts = "checked: datatypes 0, definitions 1, obligations 2\n";
-    expect(&rt, rt.alloc(), &CHECK, 0, counts, "")?;
-    let spaces = vec![in rt.alloc(); b' '; 262_144]?;
-    let blank = Call {
-        program: &spaces,
-        ..CHECK
-    };
-    let none = "checked: datatypes 0, definitions 0, obligations 0\n";
-    expect(&rt, rt.alloc(), &blank, 0, none, "")?;
-    let silent = Call {
-        failing_writes: &[0],
-        ..CHECK
-    };
-    expect(&rt, rt.alloc(), &silent, 9, "", "write fault\n")
-}
-
-#[test]
-fn a_derivation_is_accepted(rt: HostRuntime) -> Result<(), Fail> {
-    expect(&rt, rt.alloc(), &REPLAY, 0, "accepted 2\n", "")?;
-    let small = Call {
-        piece: 16,
-        ..REPLAY
-    };
-    expect(&rt, rt.alloc(), &small, 0, "accepted 2\n", "")?;
-    let empty = Call {
-        program: b"",
-        derivation: b"",
-        ..REPLAY
-    };
-    expect(&rt, rt.alloc(), &empty, 0, "accepted 0\n", "")
+fn each_call_has_its_end(rt: HostRuntime) -> Result<(), Fail> {
+    for (call, wanted, printed, told) in CALLS {
+        expect(&rt, rt.alloc(), &call, wanted, printed, told)?;
+    }
+    for words in OTHER_WORDS {
+        let call = Call { words, ..REPLAY };
+        let usage = "usage: propel check F | replay F D\n";
+        expect(&rt, rt.alloc(), &call, 2, "", usage)?;
+    }
+    for (program, line) in REFUSED {
+        expect(&rt, rt.alloc(), &Call { program, ..CHECK }, 3, "", line)?;
+        expect(&rt, rt.alloc(), &Call { program, ..REPLAY }, 3, "", line)?;
+    }
+    Ok(())
 }
 
 /// A call over another derivation is rejected.
-fn expect_rejected(rt: &impl Abort, alloc: Global, derivation: &Bytes) -> Result<(), Fail> {
+fn expect_rejected(rt: &impl Abort, alloc: Global, derivation: &[u8]) -> Result<(), Fail> {
     let call = Call {
-        derivation: derivation.as_slice(),
+        derivation,
         ..REPLAY
     };
     expect(rt, alloc, &call, 5, "", "rejected\n")
 }
 
-#[test]
-fn a_derivation_cut_short_is_rejected(rt: HostRuntime) -> Result<(), Fail> {
-    for count in 0..LINES.len() {
-        expect_rejected(&rt, rt.alloc(), &text_of(rt.alloc(), &LINES[..count])?)?;
+/// The derivation with another line in the place of the one at `place` is rejected.
+fn expect_line_rejected(
+    rt: &impl Abort,
+    alloc: Global,
+    place: usize,
+    other: &[u8],
+) -> Result<(), Fail> {
+    let mut lines = Vec::new(alloc);
+    for (at, line) in LINES.iter().enumerate() {
+        lines.push(if at == place { other } else { *line })?;
     }
-    let without_line_feed = Call {
-        derivation: &WHOLE[..WHOLE.len() - 1],
-        ..REPLAY
-    };
-    expect(&rt, rt.alloc(), &without_line_feed, 5, "", "rejected\n")
+    expect_rejected(rt, alloc, text_of(alloc, lines.as_slice())?.as_slice())
 }
 
-#[test]
-fn another_row_is_rejected(rt: HostRuntime) -> Result<(), Fail> {
-    for place in 0..LINES.len() {
-        expect_rejected(&rt, rt.alloc(), &text_with(rt.alloc(), place, b"same 1")?)?;
-    }
-    let twice = text_with(rt.alloc(), 3, b"same 0\nsame 0")?;
-    expect_rejected(&rt, rt.alloc(), &twice)?;
-    let too_many = text_with(rt.alloc(), 23, b"same 0\nsame 0")?;
-    expect_rejected(&rt, rt.alloc(), &too_many)?;
-    Ok(())
-}
-
-/// The line with `more` before the first byte `mark` in it.
+/// The line with `more` before the first byte `mark` in it, or at its end where it has none.
 fn spelled(alloc: Global, line: &[u8], mark: u8, more: &[u8]) -> Result<Bytes, Fail> {
     let mut text = Bytes::new(alloc);
     let mut is_first = true;
@@ -245,167 +300,37 @@ fn spelled(alloc: Global, line: &[u8], mark: u8, more: &[u8]) -> Result<Bytes, F
             text.extend_from_slice(more)?;
             is_first = false;
         }
-        text.extend_from_slice(&[*byte])?;
+        text.push(*byte)?;
+    }
+    if is_first {
+        text.extend_from_slice(more)?;
     }
     Ok(text)
 }
 
-/// The line with `more` after it.
-fn followed(alloc: Global, line: &[u8], more: &[u8]) -> Result<Bytes, Fail> {
-    let mut text = Bytes::new(alloc);
-    text.extend_from_slice(line)?;
-    text.extend_from_slice(more)?;
-    Ok(text)
-}
-
 #[test]
-fn another_spelling_is_rejected(rt: HostRuntime) -> Result<(), Fail> {
+fn another_derivation_is_rejected(rt: HostRuntime) -> Result<(), Fail> {
     let alloc = rt.alloc();
+    for count in 0..LINES.len() {
+        let front = text_of(alloc, &LINES[..count])?;
+        expect_rejected(&rt, alloc, front.as_slice())?;
+    }
+    expect_rejected(&rt, alloc, &WHOLE[..WHOLE.len() - 1])?;
+    expect_line_rejected(&rt, alloc, 3, b"same 0\nsame 0")?;
+    expect_line_rejected(&rt, alloc, 23, b"same 0\nsame 0")?;
     for (place, line) in LINES.iter().enumerate() {
-        let zero = if line.contains(&b'0') { b'0' } else { b'1' };
-        let leading_zero = spelled(alloc, line, zero, b"0")?;
-        expect_rejected(
-            &rt,
-            alloc,
-            &text_with(alloc, place, leading_zero.as_slice())?,
-        )?;
-        let doubled_space = spelled(alloc, line, b' ', b" ")?;
-        expect_rejected(
-            &rt,
-            alloc,
-            &text_with(alloc, place, doubled_space.as_slice())?,
-        )?;
-        let trailing_space = followed(alloc, line, b" ")?;
-        expect_rejected(
-            &rt,
-            alloc,
-            &text_with(alloc, place, trailing_space.as_slice())?,
-        )?;
-        let carriage_return = followed(alloc, line, b"\r")?;
-        expect_rejected(
-            &rt,
-            alloc,
-            &text_with(alloc, place, carriage_return.as_slice())?,
-        )?;
+        expect_line_rejected(&rt, alloc, place, b"same 1")?;
+        // A leading zero, a doubled space, a space and a carriage return at the end.
+        let digit = if line.contains(&b'0') { b'0' } else { b'1' };
+        for (mark, more) in [(digit, b"0"), (b' ', b" "), (b'\n', b" "), (b'\n', b"\r")] {
+            let other = spelled(alloc, line, mark, more)?;
+            expect_line_rejected(&rt, alloc, place, other.as_slice())?;
+        }
     }
     Ok(())
 }
 
-/// The words are no plain line.
-fn expect_usage(rt: &impl Abort, alloc: Global, words: &[&str]) -> Result<(), Fail> {
-    let call = Call { words, ..REPLAY };
-    expect(
-        rt,
-        alloc,
-        &call,
-        2,
-        "",
-        "usage: propel check F | replay F D\n",
-    )
-}
-
-#[test]
-fn other_words_are_usage(rt: HostRuntime) -> Result<(), Fail> {
-    expect_usage(&rt, rt.alloc(), &[])?;
-    expect_usage(&rt, rt.alloc(), &["check"])?;
-    expect_usage(&rt, rt.alloc(), &["check", "-p"])?;
-    expect_usage(&rt, rt.alloc(), &["check", "p", "d"])?;
-    expect_usage(&rt, rt.alloc(), &["replay"])?;
-    expect_usage(&rt, rt.alloc(), &["replay", "p"])?;
-    expect_usage(&rt, rt.alloc(), &["replay", "p", "-d"])?;
-    expect_usage(&rt, rt.alloc(), &["replay", "p", ""])?;
-    expect_usage(&rt, rt.alloc(), &["replay", "p", "d", "d"])?;
-    expect_usage(&rt, rt.alloc(), &["replays", "p", "d"])
-}
-
-#[test]
-fn a_fault_of_reading_is_told(rt: HostRuntime) -> Result<(), Fail> {
-    // The program is opened and read in seven calls; then the derivation is opened, and its second read fails.
-    let cut = Call {
-        piece: 16,
-        failing_calls: &[10],
-        ..REPLAY
-    };
-    expect(&rt, rt.alloc(), &cut, 8, "", "read fault\n")?;
-    let missing = Call {
-        words: &["replay", "q", "d"],
-        ..REPLAY
-    };
-    expect(&rt, rt.alloc(), &missing, 8, "", "read fault\n")
-}
-
-#[test]
-fn a_fault_of_writing_is_told(rt: HostRuntime) -> Result<(), Fail> {
-    let silent = Call {
-        failing_writes: &[0],
-        ..REPLAY
-    };
-    expect(&rt, rt.alloc(), &silent, 9, "", "write fault\n")?;
-    let untold = Call {
-        words: &[],
-        failing_errors: &[0],
-        ..REPLAY
-    };
-    expect(&rt, rt.alloc(), &untold, 9, "", "")?;
-    // The line is written in pieces, and its second one fails.
-    let cut = Call {
-        program: b"def f(",
-        failing_errors: &[1],
-        ..CHECK
-    };
-    expect(&rt, rt.alloc(), &cut, 9, "", "source: parse at ")
-}
-
-#[test]
-fn a_programs_text_is_refused(rt: HostRuntime) -> Result<(), Fail> {
-    for (program, line) in REFUSED {
-        let call = Call { program, ..CHECK };
-        expect(&rt, rt.alloc(), &call, 3, "", line)?;
-    }
-    let replayed = Call {
-        program: b"def f(",
-        ..REPLAY
-    };
-    expect(&rt, rt.alloc(), &replayed, 3, "", "source: parse at 6\n")
-}
-
-#[test]
-fn each_rule_of_names_has_its_line(rt: HostRuntime) -> Result<(), Fail> {
-    for (program, line) in FAULTS {
-        expect(&rt, rt.alloc(), &Call { program, ..CHECK }, 3, "", line)?;
-    }
-    Ok(())
-}
-
-#[test]
-fn lawful_names_are_taken(rt: HostRuntime) -> Result<(), Fail> {
-    for program in LAWFUL {
-        let call = Call { program, ..CHECK };
-        expect(&rt, rt.alloc(), &call, 3, "", "source: unbuilt\n")?;
-    }
-    let counts = "checked: datatypes 0, definitions 1, obligations 0\n";
-    for program in HIDING {
-        expect(&rt, rt.alloc(), &Call { program, ..CHECK }, 0, counts, "")?;
-    }
-    Ok(())
-}
-
-#[test]
-fn a_long_text_is_refused(rt: HostRuntime) -> Result<(), Fail> {
-    let spaces = vec![in rt.alloc(); b' '; 262_145]?;
-    let long = Call {
-        program: &spaces,
-        ..REPLAY
-    };
-    expect(&rt, rt.alloc(), &long, 11, "", "too long: program\n")?;
-    let checked = Call {
-        program: &spaces,
-        ..CHECK
-    };
-    expect(&rt, rt.alloc(), &checked, 11, "", "too long: program\n")
-}
-
-/// A match on `a`, with such matches in both arms, so many levels deep.
+/// A program of one constant definition, with matches so many levels deep in the arm that is never taken.
 fn choices(alloc: Global, levels: u32) -> Result<String, AllocError> {
     let mut text = String::from_str(alloc, "a")?;
     for _ in 0..levels {
@@ -416,36 +341,49 @@ fn choices(alloc: Global, levels: u32) -> Result<String, AllocError> {
         next.push_str("}")?;
         text = next;
     }
-    Ok(text)
-}
-
-/// The derivation for a constant definition that has such matches in the arm that is never taken ends so.
-fn expect_with_choices(
-    rt: &impl Abort,
-    alloc: Global,
-    levels: u32,
-    wanted: u8,
-    printed: &str,
-    told: &str,
-) -> Result<(), Fail> {
-    let mut text = String::from_str(
+    let mut program = String::from_str(
         alloc,
         "def f(a: Bool, b: Bool): Bool with comm { match True { False => ",
     )?;
-    text.push_str(choices(alloc, levels)?.as_str())?;
-    text.push_str(", True => False } }")?;
-    let call = Call {
-        program: text.as_bytes(),
-        derivation: b"goal 0\nstep a0l / unfold\nstep a0l / select\nstep a0r / unfold\nstep a0r / select\nsame 0\n",
-        ..REPLAY
-    };
-    expect(rt, alloc, &call, wanted, printed, told)
+    program.push_str(text.as_str())?;
+    program.push_str(", True => False } }")?;
+    Ok(program)
 }
 
+/// The derivation for such a definition.
+const CHOSEN: &[u8] =
+    b"goal 0\nstep a0l / unfold\nstep a0l / select\nstep a0r / unfold\nstep a0r / select\nsame 0\n";
+
 #[test]
-fn a_body_over_the_limit_is_not_unfolded(rt: HostRuntime) -> Result<(), Fail> {
-    expect_with_choices(&rt, rt.alloc(), 12, 0, "accepted 1\n", "")?;
-    expect_with_choices(&rt, rt.alloc(), 13, 5, "", "rejected\n")
+fn limits_are_kept(rt: HostRuntime) -> Result<(), Fail> {
+    let spaces = vec![in rt.alloc(); b' '; 262_145]?;
+    let none = "checked: datatypes 0, definitions 0, obligations 0\n";
+    let full = Call {
+        program: &spaces[1..],
+        ..CHECK
+    };
+    expect(&rt, rt.alloc(), &full, 0, none, "")?;
+    for call in [CHECK, REPLAY] {
+        let long = Call {
+            program: &spaces,
+            ..call
+        };
+        expect(&rt, rt.alloc(), &long, 11, "", "too long: program\n")?;
+    }
+    // A body over the limit of a term isn't unfolded.
+    for (levels, wanted, printed, told) in [
+        (12, 0, "accepted 1\n", ""),
+        (13, 5, "", "rejected\n"),
+    ] {
+        let program = choices(rt.alloc(), levels)?;
+        let call = Call {
+            program: program.as_bytes(),
+            derivation: CHOSEN,
+            ..REPLAY
+        };
+        expect(&rt, rt.alloc(), &call, wanted, printed, told)?;
+    }
+    Ok(())
 }
 
 #[test]

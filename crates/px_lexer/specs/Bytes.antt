@@ -1,10 +1,6 @@
 -- Classes of bytes, and what stands between tokens.
 use Rattle.std.specs.Prelude.{◌≡◌, ◌≢◌, ◌<◌, ◌≤◌, ℕ, Bool, ◌||◌, ◌==◌, List, length, slice_index, IsTrue}
-use Rattle.std.specs.Char.{is_ascii_alphanumeric}
-
--- a letter, a digit or `_`: what a name goes on with
-abbrev pub is_name_part : ℕ → Bool
-is_name_part byte = is_ascii_alphanumeric byte || byte == 95
+pub use Rattle.px_base.specs.NameForms.{is_name_part}
 
 -- a space, a tab, a line feed or a carriage return
 abbrev pub is_blank : ℕ → Bool

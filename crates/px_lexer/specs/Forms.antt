@@ -1,8 +1,8 @@
 -- The texts of tokens.
-use Rattle.std.specs.Prelude.{◌≡◌, ◌<◌, ◌≤◌, ◌^◌, ℕ, Bool, List, map, length, slice_index, slice_range, All, Contains, IsTrue}
+use Rattle.std.specs.Prelude.{◌≡◌, ◌<◌, ◌≤◌, ◌^◌, ℕ, List, map, length, slice_range, All, Contains, IsTrue}
 use Rattle.std.specs.Char.{is_ascii_digit, is_ascii_lowercase, is_ascii_uppercase}
 use Rattle.std.specs.Str.Parse.{digits_value}
-use Rattle.px_lexer.specs.Bytes.{is_name_part}
+pub use Rattle.px_base.specs.NameForms.{IsName}
 use Rattle.px_lexer.specs.declared.table.TheConstants.{WORDS, MARKS}
 use Rattle.px_lexer.specs.declared.token.Token.{Token}
 use Rattle.px_lexer.specs.declared.token.TokenKind.{TokenKind}
@@ -19,11 +19,6 @@ marks = map (λ row. (row.0.now, row.1)) MARKS
 -- the word is reserved
 abbrev pub IsReserved : List ℕ → Type 0
 IsReserved word = (kind : TokenKind) × Contains words (word, kind)
-
--- a byte of this class, then letters, digits and `_`
-pub record IsName (is_first : ℕ → Bool) (word : List ℕ) : Type 0 where
-  pub first : IsTrue (is_first (slice_index word 0))
-  pub rest : All (λ byte. IsTrue (is_name_part byte)) word
 
 -- a run of digits
 pub record IsDigits (word : List ℕ) : Type 0 where

@@ -1,5 +1,6 @@
 //! The tokens of a program's text. `tokens` answers them exactly, or the first place where none begins.
 //! The rules stand in `specs/`: a relation between a text and its tokens, apart from the scanner.
+//! What is handed `alloc` takes memory, and answers `NoMemory` where there is none; nothing else takes any.
 #![tactic(auto)]
 
 mod laws;

@@ -5,7 +5,7 @@ ghost use Rattle.px_lexer.specs.Scan.{is_in, IsRun};
 
 /// A class of bytes that stand in a row.
 #[derive(Clone, Copy)]
-pub enum Class {
+pub(crate) enum Class {
     /// What a name goes on with.
     NamePart,
     /// What a number is made of.
@@ -26,7 +26,7 @@ fn is_in(class: Class, byte: u8) -> bool
 }
 
 /// The place after the bytes of the class that come next.
-pub fn run_end(class: Class, text: &[u8], at: usize) -> usize
+pub(crate) fn run_end(class: Class, text: &[u8], at: usize) -> usize
     requires { at ≤ length text.now }
     ensures { IsRun class text.now at result }
 {
@@ -38,7 +38,7 @@ pub fn run_end(class: Class, text: &[u8], at: usize) -> usize
 }
 
 /// The number that the digits spell, or nothing where it is above 2^64 - 1.
-pub fn number_of(digits: &[u8]) -> Option<u64>
+pub(crate) fn number_of(digits: &[u8]) -> Option<u64>
     requires { All (λ digit. IsTrue (is_ascii_digit digit)) digits.now }
     ensures { MatchOption result (2 ^ 64 ≤ digits_value 10 digits.now) (λ number. number ≡ digits_value 10 digits.now) }
 {

@@ -7,7 +7,7 @@ use crate::token::{Key, Mark, TokenKind};
 use px_base::Prop;
 
 /// The reserved words, each with its kind.
-pub const WORDS: [(&[u8], TokenKind); 21] = [
+pub(crate) const WORDS: [(&[u8], TokenKind); 21] = [
     (b"data", TokenKind::Key(Key::KData)),
     (b"def", TokenKind::Key(Key::KDef)),
     (b"claim", TokenKind::Key(Key::KClaim)),
@@ -32,7 +32,7 @@ pub const WORDS: [(&[u8], TokenKind); 21] = [
 ];
 
 /// The marks, each with its kind. Where one begins another, the longer one comes first.
-pub const MARKS: [(&[u8], TokenKind); 11] = [
+pub(crate) const MARKS: [(&[u8], TokenKind); 11] = [
     (b"->", TokenKind::Mark(Mark::Arrow)),
     (b"=>", TokenKind::Mark(Mark::FatArrow)),
     (b"{", TokenKind::Mark(Mark::BraceL)),
@@ -60,7 +60,7 @@ fn row_kind(table: &[(&[u8], TokenKind)], word: &[u8]) -> Option<TokenKind>
 }
 
 /// The kind of a word that begins with a small letter.
-pub fn word_kind(word: &[u8]) -> TokenKind
+pub(crate) fn word_kind(word: &[u8]) -> TokenKind
     ensures { IsWordKind word.now result }
 {
     row_kind(&WORDS, word).unwrap_or(TokenKind::Lower)
@@ -81,7 +81,7 @@ fn longest_row(table: &[(&[u8], TokenKind)], text: &[u8]) -> Option<(usize, Toke
 }
 
 /// The length and the kind of the longest mark that the text begins with.
-pub fn mark_of(text: &[u8]) -> Option<(usize, TokenKind)>
+pub(crate) fn mark_of(text: &[u8]) -> Option<(usize, TokenKind)>
     ensures none { IfNone result (NoRowBegins marks text.now) }
     ensures some { IfSome result (λ found. IsLongestRow marks text.now found.0 found.1) }
 {

@@ -4,10 +4,10 @@ use Rattle.px_parser.specs.Words.{Word}
 use Rattle.px_parser.specs.Readers.{word_at}
 use Rattle.px_parser.specs.Reading.{where_true}
 use Rattle.px_parser.specs.Gives.{Fails}
-use Rattle.px_parser.specs.declared.read_end.ReadEnd.{ReadEnd}
-use Rattle.px_parser.specs.declared.read_end.ReadEnd.TheVariants.{Fault}
+use Rattle.px_parser.specs.declared.phrase_end.PhraseEnd.{PhraseEnd}
+use Rattle.px_parser.specs.declared.phrase_end.PhraseEnd.TheVariants.{Fault}
 
-pub fails_at : {T : Type 0} (end : ReadEnd) (words : List Word) (read : Result T ℕ) → end ≡ Fault (length words) → read ≡ Err (length words) → Fails end read
+pub fails_at : {T : Type 0} (end : PhraseEnd) (words : List Word) (read : Result T ℕ) → end ≡ Fault (length words) → read ≡ Err (length words) → Fails end read
 fails_at end words read e f = rw e f
 
 pub none_at : {T : Type 0} (value_of : Word → Option T) (words : List Word) → words ≡ [] → word_at value_of words ≡ Err (length words)

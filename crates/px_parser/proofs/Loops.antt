@@ -6,8 +6,8 @@ use Rattle.px_parser.specs.Words.{Word}
 use Rattle.px_parser.specs.Readers.{Reader, onward, bind, pure, found, word_at, each_at}
 use Rattle.px_parser.specs.Reading.{mark_at, list_while}
 use Rattle.px_parser.specs.Gives.{Fails}
-use Rattle.px_parser.specs.declared.read_end.ReadEnd.{ReadEnd}
-use Rattle.px_parser.specs.declared.read_end.ReadEnd.TheVariants.{Fault, NoMemory}
+use Rattle.px_parser.specs.declared.phrase_end.PhraseEnd.{PhraseEnd}
+use Rattle.px_parser.specs.declared.phrase_end.PhraseEnd.TheVariants.{Fault, NoMemory}
 use Rattle.px_parser.proofs.Right.{onward_ok, one_result, read, Right}
 use Rattle.px_parser.proofs.Repeats.{Shrinks, each_stops, each_goes, each_breaks}
 
@@ -63,7 +63,7 @@ pub loop_first : {T : Type 0} (test : List Word → Bool) (separator : Mark) (it
 unfolding list_while bind pure
 loop_first test separator item words rest x e = rw e refl
 
-pub loop_first_fails : {T : Type 0} (test : List Word → Bool) (separator : Mark) (item : List Word → Result (T × List Word) ℕ) (words : List Word) (end : ReadEnd) → Fails end (item words) → Fails end (list_while test separator item words)
+pub loop_first_fails : {T : Type 0} (test : List Word → Bool) (separator : Mark) (item : List Word → Result (T × List Word) ℕ) (words : List Word) (end : PhraseEnd) → Fails end (item words) → Fails end (list_while test separator item words)
 unfolding list_while bind pure
 loop_first_fails test separator item words (Fault n) e = rw e refl
 loop_first_fails test separator item words NoMemory e = tt
@@ -82,7 +82,7 @@ module _ {T : Type 0} (test : List Word → Bool) (separator : Mark) (item : Lis
       let step : next_at separator item words ≡ Ok (x, rest) = rw (mark, e) refl in
       rw (each_goes test (next_at separator item) (next_shrinks test separator item stays) empty words rest x holds step) (sym (regroup items x (each_at test (next_at separator item) rest)))
 
-  pub loop_fails : (items : List T) (words mid : List Word) (end : ReadEnd) → test words ≡ true → mark_at separator words ≡ Ok (tt, mid) → Fails end (item mid) → Fails end (so_far test (next_at separator item) items words)
+  pub loop_fails : (items : List T) (words mid : List Word) (end : PhraseEnd) → test words ≡ true → mark_at separator words ≡ Ok (tt, mid) → Fails end (item mid) → Fails end (so_far test (next_at separator item) items words)
   unfolding bind
   loop_fails items words mid (Fault n) holds mark e =
       let step : next_at separator item words ≡ Err n = rw (mark, e) refl in
@@ -95,7 +95,7 @@ module _ {T : Type 0} (test : List Word → Bool) (separator : Mark) (item : Lis
       let two : length rest ≤ length mid = stays mid rest x e in
       omega arith
 
-  pub loop_stops : (items : List T) (words : List Word) (end : ReadEnd) → test words ≡ true → Fails end (mark_at separator words) → Fails end (so_far test (next_at separator item) items words)
+  pub loop_stops : (items : List T) (words : List Word) (end : PhraseEnd) → test words ≡ true → Fails end (mark_at separator words) → Fails end (so_far test (next_at separator item) items words)
   unfolding bind
   loop_stops items words (Fault n) holds mark =
       let step : next_at separator item words ≡ Err n = rw mark refl in
@@ -117,6 +117,6 @@ module _ {T : Type 0} (test : List Word → Bool) (item : List Word → Result (
   pub each_next : (items : List T) (words rest : List Word) (x : T) → test words ≡ true → item words ≡ Ok (x, rest) → so_far test item (items ++ x ∷ []) rest ≡ so_far test item items words
   each_next items words rest x holds e = rw (each_goes test item shrinks empty words rest x holds e) (sym (regroup items x (each_at test item rest)))
 
-  pub each_fails : (items : List T) (words : List Word) (end : ReadEnd) → test words ≡ true → Fails end (item words) → Fails end (so_far test item items words)
+  pub each_fails : (items : List T) (words : List Word) (end : PhraseEnd) → test words ≡ true → Fails end (item words) → Fails end (so_far test item items words)
   each_fails items words (Fault n) holds e = rw (each_breaks test item shrinks empty words n holds e) refl
   each_fails items words NoMemory holds e = tt

@@ -7,8 +7,8 @@ use Rattle.px_parser.specs.Reading.{upper_at, type_at, type_arguments_at}
 use Rattle.px_parser.specs.Gives.{Fails}
 use Rattle.px_parser.specs.declared.surface.Name.{Name}
 use Rattle.px_parser.specs.declared.surface.SType.{SType}
-use Rattle.px_parser.specs.declared.read_end.ReadEnd.{ReadEnd}
-use Rattle.px_parser.specs.declared.read_end.ReadEnd.TheVariants.{Fault, NoMemory}
+use Rattle.px_parser.specs.declared.phrase_end.PhraseEnd.{PhraseEnd}
+use Rattle.px_parser.specs.declared.phrase_end.PhraseEnd.TheVariants.{Fault, NoMemory}
 
 pub no_type : (room : ℕ) (words : List Word) → room ≡ 0 → type_at room words ≡ Err (length words)
 unfolding type_at fail
@@ -26,13 +26,13 @@ a_type room words mid rest name args some e f =
     let P : ℕ → Type 0 = λ n. type_at n words ≡ Ok (type_of name args, rest) in
     subst P (sym (not_zero room some)) (rw (type_step (room - 1) words, e, f) refl)
 
-pub no_name : (room : ℕ) (words : List Word) (end : ReadEnd) → (room ≡ 0 → ⊥) → Fails end (upper_at words) → Fails end (type_at room words)
+pub no_name : (room : ℕ) (words : List Word) (end : PhraseEnd) → (room ≡ 0 → ⊥) → Fails end (upper_at words) → Fails end (type_at room words)
 no_name room words NoMemory some e = tt
 no_name room words (Fault left) some e =
     let P : ℕ → Type 0 = λ n. type_at n words ≡ Err left in
     subst P (sym (not_zero room some)) (rw (type_step (room - 1) words, e) refl)
 
-pub no_arguments : (room : ℕ) (words mid : List Word) (name : Name) (end : ReadEnd) → (room ≡ 0 → ⊥) → upper_at words ≡ Ok (name, mid) → Fails end (type_arguments_at (room - 1) mid) → Fails end (type_at room words)
+pub no_arguments : (room : ℕ) (words mid : List Word) (name : Name) (end : PhraseEnd) → (room ≡ 0 → ⊥) → upper_at words ≡ Ok (name, mid) → Fails end (type_arguments_at (room - 1) mid) → Fails end (type_at room words)
 no_arguments room words mid name NoMemory some e f = tt
 no_arguments room words mid name (Fault left) some e f =
     let P : ℕ → Type 0 = λ n. type_at n words ≡ Err left in

@@ -6,19 +6,21 @@ ghost use Rattle.px_parser.specs.Reading.{con_fields_at, con_at, cons_at, data_a
 use crate::expressions::read_expression;
 use crate::lists::{read_properties, read_type_parameters, read_with};
 use crate::parameters::read_params;
-use crate::read_end::ReadEnd;
+use crate::phrase_end::PhraseEnd;
 use crate::rest::Rest;
 use crate::surface::{Item, SClaim, SCon, SData, SDef, SEquation, SFun, SLemma, SReplica, SType};
 use crate::types::{read_type, read_type_arguments, read_types};
-use px_lexer::{Key, Mark};
 use px_base::limits::NESTING;
+use px_lexer::{Key, Mark};
 use sqlite_items::Items;
 use std::alloc::Global;
 
-/// The types of a constructor's fields at the front, none where there is no `(`, and the tokens after them. It takes
-/// memory.
+/// The types of a constructor's fields at the front, none where there is no `(`, and the tokens after them.
 #[tactic(auto, unfolding(crate::specs::Reading::con_fields_at, crate::specs::Reading::opened_at, crate::specs::Reading::between_at, crate::specs::Readers::choice, crate::specs::Readers::bind, crate::specs::Readers::pure))]
-fn read_con_fields<'t>(alloc: Global, tokens: Rest<'t>) -> Result<(Items<SType>, Rest<'t>), ReadEnd>
+fn read_con_fields<'t>(
+    alloc: Global,
+    tokens: Rest<'t>,
+) -> Result<(Items<SType>, Rest<'t>), PhraseEnd>
     ensures { Gives result (con_fields_at (words tokens.entry)) }
 {
     let Some(rest) = tokens.past(Mark::ParenL) else {
@@ -29,9 +31,9 @@ fn read_con_fields<'t>(alloc: Global, tokens: Rest<'t>) -> Result<(Items<SType>,
     Ok((fields, rest))
 }
 
-/// The constructor at the front, and the tokens after it. It takes memory.
+/// The constructor at the front, and the tokens after it.
 #[tactic(auto, unfolding(crate::specs::Reading::con_at, crate::specs::Readers::bind, crate::specs::Readers::pure))]
-fn read_con<'t>(alloc: Global, tokens: Rest<'t>) -> Result<(SCon, Rest<'t>), ReadEnd>
+fn read_con<'t>(alloc: Global, tokens: Rest<'t>) -> Result<(SCon, Rest<'t>), PhraseEnd>
     ensures { Gives result (con_at (words tokens.entry)) }
 {
     let (name, rest) = tokens.upper(alloc)?;
@@ -39,8 +41,8 @@ fn read_con<'t>(alloc: Global, tokens: Rest<'t>) -> Result<(SCon, Rest<'t>), Rea
     Ok((SCon { name, fields }, rest))
 }
 
-/// The constructors at the front, with commas between, and the tokens after them. It takes memory.
-fn read_cons<'t>(alloc: Global, tokens: Rest<'t>) -> Result<(Items<SCon>, Rest<'t>), ReadEnd>
+/// The constructors at the front, with commas between, and the tokens after them.
+fn read_cons<'t>(alloc: Global, tokens: Rest<'t>) -> Result<(Items<SCon>, Rest<'t>), PhraseEnd>
     ensures { Gives result (cons_at (words tokens.entry)) }
 {
     let mut cons = Items::new(alloc);
@@ -54,9 +56,9 @@ fn read_cons<'t>(alloc: Global, tokens: Rest<'t>) -> Result<(Items<SCon>, Rest<'
     Ok((cons, rest))
 }
 
-/// The datatype at the front, and the tokens after it. It takes memory.
+/// The datatype at the front, and the tokens after it.
 #[tactic(auto, unfolding(crate::specs::Reading::data_at, crate::specs::Reading::between_at, crate::specs::Readers::bind, crate::specs::Readers::pure))]
-fn read_data<'t>(alloc: Global, tokens: Rest<'t>) -> Result<(SData, Rest<'t>), ReadEnd>
+fn read_data<'t>(alloc: Global, tokens: Rest<'t>) -> Result<(SData, Rest<'t>), PhraseEnd>
     ensures { Gives result (data_at (words tokens.entry)) }
 {
     let (at, rest) = tokens.key(Key::KData)?;
@@ -74,9 +76,9 @@ fn read_data<'t>(alloc: Global, tokens: Rest<'t>) -> Result<(SData, Rest<'t>), R
     Ok((declaration, rest))
 }
 
-/// The definition at the front, and the tokens after it. It takes memory.
+/// The definition at the front, and the tokens after it.
 #[tactic(auto, unfolding(crate::specs::Reading::definition_at, crate::specs::Reading::between_at, crate::specs::Readers::bind, crate::specs::Readers::pure))]
-fn read_definition<'t>(alloc: Global, tokens: Rest<'t>) -> Result<(SDef, Rest<'t>), ReadEnd>
+fn read_definition<'t>(alloc: Global, tokens: Rest<'t>) -> Result<(SDef, Rest<'t>), PhraseEnd>
     ensures { Gives result (definition_at (words tokens.entry)) }
 {
     let (at, rest) = tokens.key(Key::KDef)?;
@@ -101,9 +103,9 @@ fn read_definition<'t>(alloc: Global, tokens: Rest<'t>) -> Result<(SDef, Rest<'t
     Ok((declaration, rest))
 }
 
-/// The claim at the front, and the tokens after it. It takes memory.
+/// The claim at the front, and the tokens after it.
 #[tactic(auto, unfolding(crate::specs::Reading::claim_at, crate::specs::Readers::bind, crate::specs::Readers::pure))]
-fn read_claim<'t>(alloc: Global, tokens: Rest<'t>) -> Result<(SClaim, Rest<'t>), ReadEnd>
+fn read_claim<'t>(alloc: Global, tokens: Rest<'t>) -> Result<(SClaim, Rest<'t>), PhraseEnd>
     ensures { Gives result (claim_at (words tokens.entry)) }
 {
     let (at, rest) = tokens.key(Key::KClaim)?;
@@ -113,9 +115,9 @@ fn read_claim<'t>(alloc: Global, tokens: Rest<'t>) -> Result<(SClaim, Rest<'t>),
     Ok((SClaim { at, name, props }, rest))
 }
 
-/// The equation at the front, and the tokens after it. It takes memory.
+/// The equation at the front, and the tokens after it.
 #[tactic(auto, unfolding(crate::specs::Reading::equation_at, crate::specs::Readers::bind, crate::specs::Readers::pure))]
-fn read_equation<'t>(alloc: Global, tokens: Rest<'t>) -> Result<(SEquation, Rest<'t>), ReadEnd>
+fn read_equation<'t>(alloc: Global, tokens: Rest<'t>) -> Result<(SEquation, Rest<'t>), PhraseEnd>
     ensures { Gives result (equation_at (words tokens.entry)) }
 {
     let (left, rest) = read_expression(alloc, NESTING, tokens)?;
@@ -124,11 +126,11 @@ fn read_equation<'t>(alloc: Global, tokens: Rest<'t>) -> Result<(SEquation, Rest
     Ok((SEquation { left, right }, rest))
 }
 
-/// The equations at the front, with `=>` between, and the tokens after them. It takes memory.
+/// The equations at the front, with `=>` between, and the tokens after them.
 fn read_equations<'t>(
     alloc: Global,
     tokens: Rest<'t>,
-) -> Result<(Items<SEquation>, Rest<'t>), ReadEnd>
+) -> Result<(Items<SEquation>, Rest<'t>), PhraseEnd>
     ensures { Gives result (equations_at (words tokens.entry)) }
 {
     let mut equations = Items::new(alloc);
@@ -142,9 +144,9 @@ fn read_equations<'t>(
     Ok((equations, rest))
 }
 
-/// The lemma at the front, and the tokens after it. It takes memory.
+/// The lemma at the front, and the tokens after it.
 #[tactic(auto, unfolding(crate::specs::Reading::lemma_at, crate::specs::Readers::bind, crate::specs::Readers::pure))]
-fn read_lemma<'t>(alloc: Global, tokens: Rest<'t>) -> Result<(SLemma, Rest<'t>), ReadEnd>
+fn read_lemma<'t>(alloc: Global, tokens: Rest<'t>) -> Result<(SLemma, Rest<'t>), PhraseEnd>
     ensures { Gives result (lemma_at (words tokens.entry)) }
 {
     let (at, rest) = tokens.key(Key::KLemma)?;
@@ -163,9 +165,9 @@ fn read_lemma<'t>(alloc: Global, tokens: Rest<'t>) -> Result<(SLemma, Rest<'t>),
     Ok((declaration, rest))
 }
 
-/// The function at the front, and the tokens after it. It takes memory.
+/// The function at the front, and the tokens after it.
 #[tactic(auto, unfolding(crate::specs::Reading::function_at, crate::specs::Readers::bind, crate::specs::Readers::pure))]
-fn read_function<'t>(alloc: Global, tokens: Rest<'t>) -> Result<(SFun, Rest<'t>), ReadEnd>
+fn read_function<'t>(alloc: Global, tokens: Rest<'t>) -> Result<(SFun, Rest<'t>), PhraseEnd>
     ensures { Gives result (function_at (words tokens.entry)) }
 {
     let (name, rest) = tokens.lower(alloc)?;
@@ -173,8 +175,8 @@ fn read_function<'t>(alloc: Global, tokens: Rest<'t>) -> Result<(SFun, Rest<'t>)
     Ok((SFun { name, args }, rest))
 }
 
-/// The functions at the front, with commas between, and the tokens after them. It takes memory.
-fn read_functions<'t>(alloc: Global, tokens: Rest<'t>) -> Result<(Items<SFun>, Rest<'t>), ReadEnd>
+/// The functions at the front, with commas between, and the tokens after them.
+fn read_functions<'t>(alloc: Global, tokens: Rest<'t>) -> Result<(Items<SFun>, Rest<'t>), PhraseEnd>
     ensures { Gives result (functions_at (words tokens.entry)) }
 {
     let mut functions = Items::new(alloc);
@@ -188,13 +190,12 @@ fn read_functions<'t>(alloc: Global, tokens: Rest<'t>) -> Result<(Items<SFun>, R
     Ok((functions, rest))
 }
 
-/// The functions that a merge is given at the front, none where there is no `(`, and the tokens after them. It takes
-/// memory.
+/// The functions that a merge is given at the front, none where there is no `(`, and the tokens after them.
 #[tactic(auto, unfolding(crate::specs::Reading::merge_functions_at, crate::specs::Reading::opened_at, crate::specs::Reading::between_at, crate::specs::Readers::choice, crate::specs::Readers::bind, crate::specs::Readers::pure))]
 fn read_merge_functions<'t>(
     alloc: Global,
     tokens: Rest<'t>,
-) -> Result<(Items<SFun>, Rest<'t>), ReadEnd>
+) -> Result<(Items<SFun>, Rest<'t>), PhraseEnd>
     ensures { Gives result (merge_functions_at (words tokens.entry)) }
 {
     let Some(rest) = tokens.past(Mark::ParenL) else {
@@ -205,9 +206,9 @@ fn read_merge_functions<'t>(
     Ok((functions, rest))
 }
 
-/// The replica at the front, and the tokens after it. It takes memory.
+/// The replica at the front, and the tokens after it.
 #[tactic(auto, unfolding(crate::specs::Reading::replica_at, crate::specs::Readers::bind, crate::specs::Readers::pure))]
-fn read_replica<'t>(alloc: Global, tokens: Rest<'t>) -> Result<(SReplica, Rest<'t>), ReadEnd>
+fn read_replica<'t>(alloc: Global, tokens: Rest<'t>) -> Result<(SReplica, Rest<'t>), PhraseEnd>
     ensures { Gives result (replica_at (words tokens.entry)) }
 {
     let (at, rest) = tokens.key(Key::KReplica)?;
@@ -230,9 +231,9 @@ fn read_replica<'t>(alloc: Global, tokens: Rest<'t>) -> Result<(SReplica, Rest<'
     Ok((declaration, rest))
 }
 
-/// The declaration at the front, and the tokens after it. It takes memory.
+/// The declaration at the front, and the tokens after it.
 #[tactic(auto, unfolding(crate::specs::Reading::item_at, crate::specs::Readers::choice, crate::specs::Readers::bind, crate::specs::Readers::pure))]
-fn read_item<'t>(alloc: Global, tokens: Rest<'t>) -> Result<(Item, Rest<'t>), ReadEnd>
+fn read_item<'t>(alloc: Global, tokens: Rest<'t>) -> Result<(Item, Rest<'t>), PhraseEnd>
     ensures { Gives result (item_at (words tokens.entry)) }
 {
     if tokens.begins_key(Key::KData) {
@@ -253,11 +254,11 @@ fn read_item<'t>(alloc: Global, tokens: Rest<'t>) -> Result<(Item, Rest<'t>), Re
     }
 }
 
-/// The declarations that all the tokens are. It takes memory.
+/// The declarations that all the tokens are.
 pub(crate) fn read_items<'t>(
     alloc: Global,
     tokens: Rest<'t>,
-) -> Result<(Items<Item>, Rest<'t>), ReadEnd>
+) -> Result<(Items<Item>, Rest<'t>), PhraseEnd>
     ensures reads { Gives result (items_at (words tokens.entry)) }
     ensures all { IfOk result (λ found. words found.1 ≡ []) }
 {

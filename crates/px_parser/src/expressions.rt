@@ -3,7 +3,7 @@ ghost use Rattle.px_parser.specs.Gives.{words, Gives};
 ghost use Rattle.px_parser.specs.Reading.{expr_at, exprs_at, upper_expr_at, lower_expr_at, fields_at, arguments_at, arm_at, arms_at, match_at};
 
 use crate::lists::read_pattern_variables;
-use crate::read_end::ReadEnd;
+use crate::phrase_end::PhraseEnd;
 use crate::rest::Rest;
 use crate::surface::{SArm, SExpr, SExprKind};
 use crate::types::read_type_arguments;
@@ -12,13 +12,13 @@ use sqlite_items::{Boxed, Items};
 use std::alloc::Global;
 
 /// The expression at the front, around whose tokens so many more parts may be open, the expression among them; and the
-/// tokens after it. It takes memory; its calls nest at most as deep as expressions may.
+/// tokens after it. Its calls nest at most as deep as expressions may.
 #[cycle(expressions)]
 pub(crate) fn read_expression<'t>(
     alloc: Global,
     room: u32,
     tokens: Rest<'t>,
-) -> Result<(SExpr, Rest<'t>), ReadEnd>
+) -> Result<(SExpr, Rest<'t>), PhraseEnd>
     ensures { Gives result (expr_at room (words tokens.entry)) }
 {
     if room == 0 {
@@ -36,14 +36,14 @@ pub(crate) fn read_expression<'t>(
     }
 }
 
-/// The expression at the front that begins with a constructor, and the tokens after it. It takes memory.
+/// The expression at the front that begins with a constructor, and the tokens after it.
 #[cycle(expressions)]
 #[tactic(auto, unfolding(crate::specs::Reading::upper_expr_at, crate::specs::Reading::upper_expr_with, crate::specs::Readers::bind, crate::specs::Readers::pure))]
 fn read_construction<'t>(
     alloc: Global,
     room: u32,
     tokens: Rest<'t>,
-) -> Result<(SExpr, Rest<'t>), ReadEnd>
+) -> Result<(SExpr, Rest<'t>), PhraseEnd>
     ensures { Gives result (upper_expr_at room (words tokens.entry)) }
 {
     let (name, rest) = tokens.upper(alloc)?;
@@ -60,14 +60,14 @@ fn read_construction<'t>(
     Ok((expression, rest))
 }
 
-/// The fields of a constructor at the front, none where there is no `(`, and the tokens after them. It takes memory.
+/// The fields of a constructor at the front, none where there is no `(`, and the tokens after them.
 #[cycle(expressions)]
 #[tactic(auto, unfolding(crate::specs::Reading::fields_at, crate::specs::Reading::fields_with, crate::specs::Reading::inside, crate::specs::Reading::exprs_at, crate::specs::Reading::between_at, crate::specs::Readers::choice, crate::specs::Readers::bind, crate::specs::Readers::pure, crate::specs::Readers::fail))]
 fn read_fields<'t>(
     alloc: Global,
     room: u32,
     tokens: Rest<'t>,
-) -> Result<(Items<SExpr>, Rest<'t>), ReadEnd>
+) -> Result<(Items<SExpr>, Rest<'t>), PhraseEnd>
     ensures { Gives result (fields_at room (words tokens.entry)) }
 {
     let Some(rest) = tokens.past(Mark::ParenL) else {
@@ -81,10 +81,10 @@ fn read_fields<'t>(
     Ok((fields, rest))
 }
 
-/// The expression at the front that begins with a variable or a function, and the tokens after it. It takes memory.
+/// The expression at the front that begins with a variable or a function, and the tokens after it.
 #[cycle(expressions)]
 #[tactic(auto, unfolding(crate::specs::Reading::lower_expr_at, crate::specs::Reading::lower_expr_with, crate::specs::Readers::bind, crate::specs::Readers::pure))]
-fn read_call<'t>(alloc: Global, room: u32, tokens: Rest<'t>) -> Result<(SExpr, Rest<'t>), ReadEnd>
+fn read_call<'t>(alloc: Global, room: u32, tokens: Rest<'t>) -> Result<(SExpr, Rest<'t>), PhraseEnd>
     ensures { Gives result (lower_expr_at room (words tokens.entry)) }
 {
     let (name, rest) = tokens.lower(alloc)?;
@@ -97,14 +97,14 @@ fn read_call<'t>(alloc: Global, room: u32, tokens: Rest<'t>) -> Result<(SExpr, R
     Ok((expression, rest))
 }
 
-/// The arguments at the front, `None` where there is no `(`, and the tokens after them. It takes memory.
+/// The arguments at the front, `None` where there is no `(`, and the tokens after them.
 #[cycle(expressions)]
 #[tactic(auto, unfolding(crate::specs::Reading::arguments_at, crate::specs::Reading::arguments_with, crate::specs::Reading::exprs_at, crate::specs::Reading::up_to, crate::specs::Reading::between_at, crate::specs::Readers::choice, crate::specs::Readers::bind, crate::specs::Readers::pure))]
 fn read_arguments<'t>(
     alloc: Global,
     room: u32,
     tokens: Rest<'t>,
-) -> Result<(Option<Items<SExpr>>, Rest<'t>), ReadEnd>
+) -> Result<(Option<Items<SExpr>>, Rest<'t>), PhraseEnd>
     ensures { Gives result (arguments_at room (words tokens.entry)) }
 {
     let Some(rest) = tokens.past(Mark::ParenL) else {
@@ -118,13 +118,13 @@ fn read_arguments<'t>(
     Ok((Some(args), rest))
 }
 
-/// The expressions at the front, with commas between, and the tokens after them. It takes memory.
+/// The expressions at the front, with commas between, and the tokens after them.
 #[cycle(expressions)]
 fn read_expressions<'t>(
     alloc: Global,
     room: u32,
     tokens: Rest<'t>,
-) -> Result<(Items<SExpr>, Rest<'t>), ReadEnd>
+) -> Result<(Items<SExpr>, Rest<'t>), PhraseEnd>
     ensures { Gives result (exprs_at room (words tokens.entry)) }
 {
     let mut expressions = Items::new(alloc);
@@ -138,10 +138,14 @@ fn read_expressions<'t>(
     Ok((expressions, rest))
 }
 
-/// The match at the front, and the tokens after it. It takes memory.
+/// The match at the front, and the tokens after it.
 #[cycle(expressions)]
 #[tactic(auto, unfolding(crate::specs::Reading::match_at, crate::specs::Reading::match_with, crate::specs::Reading::inside, crate::specs::Reading::between_at, crate::specs::Readers::fail, crate::specs::Readers::bind, crate::specs::Readers::pure))]
-fn read_match<'t>(alloc: Global, room: u32, tokens: Rest<'t>) -> Result<(SExpr, Rest<'t>), ReadEnd>
+fn read_match<'t>(
+    alloc: Global,
+    room: u32,
+    tokens: Rest<'t>,
+) -> Result<(SExpr, Rest<'t>), PhraseEnd>
     ensures { Gives result (match_at room (words tokens.entry)) }
 {
     if room == 0 {
@@ -159,13 +163,13 @@ fn read_match<'t>(alloc: Global, room: u32, tokens: Rest<'t>) -> Result<(SExpr, 
     Ok((SExpr { at, kind }, rest))
 }
 
-/// The arms at the front, with commas between, and the tokens after them. It takes memory.
+/// The arms at the front, with commas between, and the tokens after them.
 #[cycle(expressions)]
 fn read_arms<'t>(
     alloc: Global,
     room: u32,
     tokens: Rest<'t>,
-) -> Result<(Items<SArm>, Rest<'t>), ReadEnd>
+) -> Result<(Items<SArm>, Rest<'t>), PhraseEnd>
     ensures { Gives result (arms_at room (words tokens.entry)) }
 {
     let mut arms = Items::new(alloc);
@@ -179,10 +183,10 @@ fn read_arms<'t>(
     Ok((arms, rest))
 }
 
-/// The arm at the front, and the tokens after it. It takes memory.
+/// The arm at the front, and the tokens after it.
 #[cycle(expressions)]
 #[tactic(auto, unfolding(crate::specs::Reading::arm_at, crate::specs::Reading::arm_with, crate::specs::Readers::bind, crate::specs::Readers::pure))]
-fn read_arm<'t>(alloc: Global, room: u32, tokens: Rest<'t>) -> Result<(SArm, Rest<'t>), ReadEnd>
+fn read_arm<'t>(alloc: Global, room: u32, tokens: Rest<'t>) -> Result<(SArm, Rest<'t>), PhraseEnd>
     ensures { Gives result (arm_at room (words tokens.entry)) }
 {
     let (name, rest) = tokens.upper(alloc)?;

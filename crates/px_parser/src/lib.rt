@@ -6,6 +6,7 @@
 //! The functions go over the tokens once, and look at one token, or at two behind a comma among a parameter's
 //! properties. They call themselves only for nested types and expressions, at most as deep as these may nest; lists
 //! are loops. Each gives what its reader of `specs/Reading.antt` finds, and each reader is proved to read its phrase.
+//! What is handed `alloc` takes memory, and answers `NoMemory` where there is none; nothing else takes any.
 //! What the names mean is not looked at here.
 #![tactic(auto)]
 
@@ -16,8 +17,8 @@ mod lists;
 mod names;
 mod parameters;
 mod parse_end;
+mod phrase_end;
 mod program;
-mod read_end;
 mod rest;
 mod surface;
 mod types;

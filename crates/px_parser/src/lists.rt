@@ -2,17 +2,16 @@
 ghost use Rattle.px_parser.specs.Gives.{words, Gives};
 ghost use Rattle.px_parser.specs.Reading.{names_at, lower_at, upper_at, type_parameters_at, pattern_variables_at, properties_at, with_at, param_properties_at, param_with_at};
 
-use crate::read_end::ReadEnd;
+use crate::phrase_end::PhraseEnd;
 use crate::rest::Rest;
 use crate::surface::Name;
-use px_lexer::{Key, Mark};
 use px_base::RawProp;
+use px_lexer::{Key, Mark};
 use sqlite_items::Items;
 use std::alloc::Global;
 
-/// The names that begin with a capital letter at the front, with commas between, and the tokens after them. It takes
-/// memory.
-fn read_uppers<'t>(alloc: Global, tokens: Rest<'t>) -> Result<(Items<Name>, Rest<'t>), ReadEnd>
+/// The names that begin with a capital letter at the front, with commas between, and the tokens after them.
+fn read_uppers<'t>(alloc: Global, tokens: Rest<'t>) -> Result<(Items<Name>, Rest<'t>), PhraseEnd>
     ensures { Gives result (names_at upper_at (words tokens.entry)) }
 {
     let mut names = Items::new(alloc);
@@ -26,8 +25,8 @@ fn read_uppers<'t>(alloc: Global, tokens: Rest<'t>) -> Result<(Items<Name>, Rest
     Ok((names, rest))
 }
 
-/// The names that begin with a small letter at the front, with commas between, and the tokens after them. It takes memory.
-fn read_lowers<'t>(alloc: Global, tokens: Rest<'t>) -> Result<(Items<Name>, Rest<'t>), ReadEnd>
+/// The names that begin with a small letter at the front, with commas between, and the tokens after them.
+fn read_lowers<'t>(alloc: Global, tokens: Rest<'t>) -> Result<(Items<Name>, Rest<'t>), PhraseEnd>
     ensures { Gives result (names_at lower_at (words tokens.entry)) }
 {
     let mut names = Items::new(alloc);
@@ -41,12 +40,12 @@ fn read_lowers<'t>(alloc: Global, tokens: Rest<'t>) -> Result<(Items<Name>, Rest
     Ok((names, rest))
 }
 
-/// The type parameters at the front, none where there is no `<`, and the tokens after them. It takes memory.
+/// The type parameters at the front, none where there is no `<`, and the tokens after them.
 #[tactic(auto, unfolding(crate::specs::Reading::type_parameters_at, crate::specs::Reading::opened_at, crate::specs::Reading::between_at, crate::specs::Readers::choice, crate::specs::Readers::bind, crate::specs::Readers::pure))]
 pub(crate) fn read_type_parameters<'t>(
     alloc: Global,
     tokens: Rest<'t>,
-) -> Result<(Items<Name>, Rest<'t>), ReadEnd>
+) -> Result<(Items<Name>, Rest<'t>), PhraseEnd>
     ensures { Gives result (type_parameters_at (words tokens.entry)) }
 {
     let Some(rest) = tokens.past(Mark::Less) else {
@@ -57,12 +56,12 @@ pub(crate) fn read_type_parameters<'t>(
     Ok((names, rest))
 }
 
-/// The variables of a pattern at the front, none where there is no `(`, and the tokens after them. It takes memory.
+/// The variables of a pattern at the front, none where there is no `(`, and the tokens after them.
 #[tactic(auto, unfolding(crate::specs::Reading::pattern_variables_at, crate::specs::Reading::opened_at, crate::specs::Reading::between_at, crate::specs::Readers::choice, crate::specs::Readers::bind, crate::specs::Readers::pure))]
 pub(crate) fn read_pattern_variables<'t>(
     alloc: Global,
     tokens: Rest<'t>,
-) -> Result<(Items<Name>, Rest<'t>), ReadEnd>
+) -> Result<(Items<Name>, Rest<'t>), PhraseEnd>
     ensures { Gives result (pattern_variables_at (words tokens.entry)) }
 {
     let Some(rest) = tokens.past(Mark::ParenL) else {
@@ -73,11 +72,11 @@ pub(crate) fn read_pattern_variables<'t>(
     Ok((names, rest))
 }
 
-/// The properties at the front, with commas between, and the tokens after them. It takes memory.
+/// The properties at the front, with commas between, and the tokens after them.
 pub(crate) fn read_properties<'t>(
     alloc: Global,
     tokens: Rest<'t>,
-) -> Result<(Items<RawProp>, Rest<'t>), ReadEnd>
+) -> Result<(Items<RawProp>, Rest<'t>), PhraseEnd>
     ensures { Gives result (properties_at (words tokens.entry)) }
 {
     let mut props = Items::new(alloc);
@@ -91,13 +90,12 @@ pub(crate) fn read_properties<'t>(
     Ok((props, rest))
 }
 
-/// The properties after the `with` of a definition, none where there is no `with`, and the tokens after them. It takes
-/// memory.
+/// The properties after the `with` of a definition, none where there is no `with`, and the tokens after them.
 #[tactic(auto, unfolding(crate::specs::Reading::with_at, crate::specs::Readers::choice, crate::specs::Readers::bind, crate::specs::Readers::pure))]
 pub(crate) fn read_with<'t>(
     alloc: Global,
     tokens: Rest<'t>,
-) -> Result<(Items<RawProp>, Rest<'t>), ReadEnd>
+) -> Result<(Items<RawProp>, Rest<'t>), PhraseEnd>
     ensures { Gives result (with_at (words tokens.entry)) }
 {
     if !tokens.begins_key(Key::KWith) {
@@ -108,11 +106,11 @@ pub(crate) fn read_with<'t>(
 }
 
 /// The properties of a parameter at the front, with commas between, and the tokens after them: a comma before anything
-/// but a property comes after the parameter. It takes memory.
+/// but a property comes after the parameter.
 fn read_param_properties<'t>(
     alloc: Global,
     tokens: Rest<'t>,
-) -> Result<(Items<RawProp>, Rest<'t>), ReadEnd>
+) -> Result<(Items<RawProp>, Rest<'t>), PhraseEnd>
     ensures { Gives result (param_properties_at (words tokens.entry)) }
 {
     let mut props = Items::new(alloc);
@@ -127,13 +125,12 @@ fn read_param_properties<'t>(
     Ok((props, rest))
 }
 
-/// The properties after the `with` of a parameter, none where there is no `with`, and the tokens after them. It takes
-/// memory.
+/// The properties after the `with` of a parameter, none where there is no `with`, and the tokens after them.
 #[tactic(auto, unfolding(crate::specs::Reading::param_with_at, crate::specs::Readers::choice, crate::specs::Readers::bind, crate::specs::Readers::pure))]
 pub(crate) fn read_param_with<'t>(
     alloc: Global,
     tokens: Rest<'t>,
-) -> Result<(Items<RawProp>, Rest<'t>), ReadEnd>
+) -> Result<(Items<RawProp>, Rest<'t>), PhraseEnd>
     ensures { Gives result (param_with_at (words tokens.entry)) }
 {
     if !tokens.begins_key(Key::KWith) {

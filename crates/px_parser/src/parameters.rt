@@ -3,18 +3,18 @@ ghost use Rattle.px_parser.specs.Gives.{words, Gives};
 ghost use Rattle.px_parser.specs.Reading.{fn_type_at, param_kind_at, param_at, param_list_at, params_at};
 
 use crate::lists::read_param_with;
-use crate::read_end::ReadEnd;
+use crate::phrase_end::PhraseEnd;
 use crate::rest::Rest;
 use crate::surface::{SFnType, SParam, SParamKind};
 use crate::types::{read_type, read_types};
-use px_lexer::{Key, Mark};
 use px_base::limits::NESTING;
+use px_lexer::{Key, Mark};
 use sqlite_items::Items;
 use std::alloc::Global;
 
-/// The function type at the front, and the tokens after it. It takes memory.
+/// The function type at the front, and the tokens after it.
 #[tactic(auto, unfolding(crate::specs::Reading::fn_type_at, crate::specs::Reading::between_at, crate::specs::Readers::bind, crate::specs::Readers::pure))]
-fn read_fn_type<'t>(alloc: Global, tokens: Rest<'t>) -> Result<(SFnType, Rest<'t>), ReadEnd>
+fn read_fn_type<'t>(alloc: Global, tokens: Rest<'t>) -> Result<(SFnType, Rest<'t>), PhraseEnd>
     ensures { Gives result (fn_type_at (words tokens.entry)) }
 {
     let (at, rest) = tokens.key(Key::KFn)?;
@@ -33,9 +33,9 @@ fn read_fn_type<'t>(alloc: Global, tokens: Rest<'t>) -> Result<(SFnType, Rest<'t
     Ok((function, rest))
 }
 
-/// What a parameter is, at the front, and the tokens after it. It takes memory.
+/// What a parameter is, at the front, and the tokens after it.
 #[tactic(auto, unfolding(crate::specs::Reading::param_kind_at, crate::specs::Readers::choice, crate::specs::Readers::bind, crate::specs::Readers::pure))]
-fn read_param_kind<'t>(alloc: Global, tokens: Rest<'t>) -> Result<(SParamKind, Rest<'t>), ReadEnd>
+fn read_param_kind<'t>(alloc: Global, tokens: Rest<'t>) -> Result<(SParamKind, Rest<'t>), PhraseEnd>
     ensures { Gives result (param_kind_at (words tokens.entry)) }
 {
     if tokens.begins_key(Key::KFn) {
@@ -47,9 +47,9 @@ fn read_param_kind<'t>(alloc: Global, tokens: Rest<'t>) -> Result<(SParamKind, R
     }
 }
 
-/// The parameter at the front, and the tokens after it. It takes memory.
+/// The parameter at the front, and the tokens after it.
 #[tactic(auto, unfolding(crate::specs::Reading::param_at, crate::specs::Readers::bind, crate::specs::Readers::pure))]
-fn read_param<'t>(alloc: Global, tokens: Rest<'t>) -> Result<(SParam, Rest<'t>), ReadEnd>
+fn read_param<'t>(alloc: Global, tokens: Rest<'t>) -> Result<(SParam, Rest<'t>), PhraseEnd>
     ensures { Gives result (param_at (words tokens.entry)) }
 {
     let (name, rest) = tokens.lower(alloc)?;
@@ -58,11 +58,11 @@ fn read_param<'t>(alloc: Global, tokens: Rest<'t>) -> Result<(SParam, Rest<'t>),
     Ok((SParam { name, kind }, rest))
 }
 
-/// The parameters at the front, with commas between, and the tokens after them. It takes memory.
+/// The parameters at the front, with commas between, and the tokens after them.
 fn read_param_list<'t>(
     alloc: Global,
     tokens: Rest<'t>,
-) -> Result<(Items<SParam>, Rest<'t>), ReadEnd>
+) -> Result<(Items<SParam>, Rest<'t>), PhraseEnd>
     ensures { Gives result (param_list_at (words tokens.entry)) }
 {
     let mut params = Items::new(alloc);
@@ -76,12 +76,12 @@ fn read_param_list<'t>(
     Ok((params, rest))
 }
 
-/// The parameters in parentheses at the front, and the tokens after them. It takes memory.
+/// The parameters in parentheses at the front, and the tokens after them.
 #[tactic(auto, unfolding(crate::specs::Reading::params_at, crate::specs::Reading::up_to, crate::specs::Reading::between_at, crate::specs::Readers::choice, crate::specs::Readers::bind, crate::specs::Readers::pure))]
 pub(crate) fn read_params<'t>(
     alloc: Global,
     tokens: Rest<'t>,
-) -> Result<(Items<SParam>, Rest<'t>), ReadEnd>
+) -> Result<(Items<SParam>, Rest<'t>), PhraseEnd>
     ensures { Gives result (params_at (words tokens.entry)) }
 {
     let rest = tokens.mark(Mark::ParenL)?;

@@ -9,15 +9,15 @@ ghost use Rattle.px_parser.specs.Named.{AreNamed};
 
 use crate::declarations::read_items;
 use crate::parse_end::ParseEnd;
-use crate::read_end::ReadEnd;
+use crate::phrase_end::PhraseEnd;
 use crate::rest::Rest;
 use crate::surface::Surface;
-use px_lexer::Token;
 use px_base::limits::PROGRAM_BYTES;
+use px_lexer::Token;
 use std::alloc::Global;
 
 /// The tree of the text's tokens, unless memory runs out. A fault where the tokens are no program: at the first token
-/// through which no program begins, nesting included, or at the text's end where only the end is wrong. It takes memory.
+/// through which no program begins, nesting included, or at the text's end where only the end is wrong.
 pub fn parse(alloc: Global, tokens: &[Token], text: &[u8]) -> Result<Surface, ParseEnd>
     requires small { length text.now ≤ PROGRAM_BYTES }
     requires tokens { AreTokens text.now tokens.now }
@@ -38,8 +38,8 @@ pub fn parse(alloc: Global, tokens: &[Token], text: &[u8]) -> Result<Surface, Pa
     let rest = Rest { text, tokens };
     match read_items(alloc, rest) {
         Ok((items, _)) => Ok(Surface { items }),
-        Err(ReadEnd::NoMemory) => Err(ParseEnd::NoMemory),
-        Err(ReadEnd::Fault { left }) => Err(ParseEnd::Fault {
+        Err(PhraseEnd::NoMemory) => Err(ParseEnd::NoMemory),
+        Err(PhraseEnd::Fault { left }) => Err(ParseEnd::Fault {
             at: place(tokens, text, tokens.len() - left),
         }),
     }

@@ -4,10 +4,10 @@ ghost use Rattle.std.specs.List.{list_all};
 ghost use Rattle.px_parser.specs.Readable.{is_readable};
 
 use crate::names::name_of;
-use crate::read_end::ReadEnd;
+use crate::phrase_end::PhraseEnd;
 use crate::surface::{Name, SExpr, SExprKind};
-use px_lexer::{Key, Mark, Token, TokenKind};
 use px_base::RawProp;
+use px_lexer::{Key, Mark, Token, TokenKind};
 use std::alloc::Global;
 
 /// The tokens that are left of a text.
@@ -26,10 +26,10 @@ impl<'t> Rest<'t> {
     ghost use Rattle.px_parser.specs.Kinds.{is_mark, is_key, is_number, is_upper, is_lower, is_property, fronts};
 
     /// The fault at the first of these tokens.
-    pub(crate) fn fault(self) -> ReadEnd
-        ensures { result ≡ ReadEnd.Fault (length (words self.entry)) }
+    pub(crate) fn fault(self) -> PhraseEnd
+        ensures { result ≡ PhraseEnd.Fault (length (words self.entry)) }
     {
-        ReadEnd::Fault {
+        PhraseEnd::Fault {
             left: self.tokens.len(),
         }
     }
@@ -57,16 +57,6 @@ impl<'t> Rest<'t> {
         ensures { some_word (words self.entry) ≡ not result }
     {
         self.split().is_none()
-    }
-
-    /// Whether this mark is at the front.
-    pub(crate) fn begins(self, mark: Mark) -> bool
-        ensures { result ≡ fronts (is_mark mark) (words self.entry) }
-    {
-        match self.split() {
-            Some((first, _)) => first.kind == TokenKind::Mark(mark),
-            None => false,
-        }
     }
 
     /// Whether this reserved word is at the front.
@@ -143,7 +133,7 @@ impl<'t> Rest<'t> {
     }
 
     /// The tokens after this mark. A fault where the first is another.
-    pub(crate) fn mark(self, mark: Mark) -> Result<Rest<'t>, ReadEnd>
+    pub(crate) fn mark(self, mark: Mark) -> Result<Rest<'t>, PhraseEnd>
         ensures { Passes result (mark_at mark (words self.entry)) }
     {
         match self.past(mark) {
@@ -153,7 +143,7 @@ impl<'t> Rest<'t> {
     }
 
     /// The place of this reserved word, and the tokens after it. A fault where the first is another.
-    pub(crate) fn key(self, key: Key) -> Result<(u32, Rest<'t>), ReadEnd>
+    pub(crate) fn key(self, key: Key) -> Result<(u32, Rest<'t>), PhraseEnd>
         ensures { Gives result (key_at key (words self.entry)) }
     {
         let Some((first, rest)) = self.split() else {
@@ -166,7 +156,7 @@ impl<'t> Rest<'t> {
     }
 
     /// The property at the front, and the tokens after it. A fault where the first is another.
-    pub(crate) fn property(self) -> Result<(RawProp, Rest<'t>), ReadEnd>
+    pub(crate) fn property(self) -> Result<(RawProp, Rest<'t>), PhraseEnd>
         ensures { Gives result (property_at (words self.entry)) }
     {
         let Some((first, rest)) = self.split() else {
@@ -185,7 +175,7 @@ impl<'t> Rest<'t> {
     }
 
     /// The number at the front, and the tokens after it. A fault where the first is another.
-    pub(crate) fn number(self) -> Result<(SExpr, Rest<'t>), ReadEnd>
+    pub(crate) fn number(self) -> Result<(SExpr, Rest<'t>), PhraseEnd>
         ensures { Gives result (number_at (words self.entry)) }
     {
         let Some((first, rest)) = self.split() else {
@@ -201,9 +191,8 @@ impl<'t> Rest<'t> {
         Ok((literal, rest))
     }
 
-    /// The name that begins with a small letter at the front, and the tokens after it. A fault where there is none. It
-    /// takes memory.
-    pub(crate) fn lower(self, alloc: Global) -> Result<(Name, Rest<'t>), ReadEnd>
+    /// The name that begins with a small letter at the front, and the tokens after it. A fault where there is none.
+    pub(crate) fn lower(self, alloc: Global) -> Result<(Name, Rest<'t>), PhraseEnd>
         ensures { Gives result (lower_at (words self.entry)) }
     {
         let Some((first, rest)) = self.split() else {
@@ -215,9 +204,8 @@ impl<'t> Rest<'t> {
         Ok((name_of(alloc, self.text, first)?, rest))
     }
 
-    /// The name that begins with a capital letter at the front, and the tokens after it. A fault where there is none. It
-    /// takes memory.
-    pub(crate) fn upper(self, alloc: Global) -> Result<(Name, Rest<'t>), ReadEnd>
+    /// The name that begins with a capital letter at the front, and the tokens after it. A fault where there is none.
+    pub(crate) fn upper(self, alloc: Global) -> Result<(Name, Rest<'t>), PhraseEnd>
         ensures { Gives result (upper_at (words self.entry)) }
     {
         let Some((first, rest)) = self.split() else {

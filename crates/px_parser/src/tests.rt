@@ -1,8 +1,8 @@
 ghost use Rattle.std.specs.Prelude.{◌≤◌, length};
 
 use crate::{ParseEnd, parse};
-use px_lexer::{LexEnd, tokens};
 use px_base::limits::PROGRAM_BYTES;
+use px_lexer::{LexEnd, tokens};
 use std::alloc::{AllocError, Global};
 use std::process::Abort;
 use std::test::Fail;

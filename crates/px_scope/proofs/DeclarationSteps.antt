@@ -16,9 +16,9 @@ use Rattle.px_scope.specs.declared.parameters.Parameters.{Parameters}
 use Rattle.px_scope.specs.Standing.{no_parameters, nothing_local}
 use Rattle.px_scope.specs.Uses.{first_broken}
 use Rattle.px_scope.specs.Declaring.{functions_in, function_count, with_type_parameter, with_parameter, type_locals, first_locals}
-use Rattle.px_scope.specs.ItemUses.{type_parameters_uses, parameters_uses, head_uses}
+use Rattle.px_scope.specs.ItemUses.{type_parameters_uses, parameters_uses, heading_uses}
 use Rattle.px_scope.specs.Programs.{IsEquation, AreEquations, none, more}
-use Rattle.px_scope.specs.Answers.{Fails, Fine, Resolves, AreBoth, IsHead}
+use Rattle.px_scope.specs.Answers.{Fails, Fine, Resolves, AreBoth, IsHeading}
 use Rattle.px_scope.proofs.Firsts.{fine_both, fails_front, fails_back, passed_on}
 use Rattle.px_scope.proofs.ParameterSteps.{type_locals_are}
 
@@ -27,8 +27,8 @@ module _ (text : List Item) (G : Globals) (tparams : List Name) (params : List S
   types_before = ap (λ (L : Locals). L.types) nothing
 
   -- the type parameters fail
-  pub head_fails_early : {Z : Type 0} (Is : Z → Type 0) (r : Result Z ScopeEnd) (end : ScopeEnd) → IsErrAnd r (λ e. e ≡ end) → Fails (first_broken (type_parameters_uses G nl.types tparams)) end → Resolves (head_uses text G tparams params) Is r
-  head_fails_early Is r end is fails = passed_on Is (head_uses text G tparams params) r end is (fails_front (type_parameters_uses G no_parameters tparams) (parameters_uses text G (first_locals tparams) params) end (subst (λ T. Fails (first_broken (type_parameters_uses G T tparams)) end) types_before fails))
+  pub heading_fails_early : {Z : Type 0} (Is : Z → Type 0) (r : Result Z ScopeEnd) (end : ScopeEnd) → IsErrAnd r (λ e. e ≡ end) → Fails (first_broken (type_parameters_uses G nl.types tparams)) end → Resolves (heading_uses text G tparams params) Is r
+  heading_fails_early Is r end is fails = passed_on Is (heading_uses text G tparams params) r end is (fails_front (type_parameters_uses G no_parameters tparams) (parameters_uses text G (first_locals tparams) params) end (subst (λ T. Fails (first_broken (type_parameters_uses G T tparams)) end) types_before fails))
 
   module _ (T : TypeLocals) (fine : first_broken (type_parameters_uses G nl.types tparams) ≡ None) (added : T ≡ fold with_type_parameter nl.types tparams) where
     types_after : T ≡ type_locals tparams
@@ -41,12 +41,12 @@ module _ (text : List Item) (G : Globals) (tparams : List Name) (params : List S
     fine_types = ap (λ U. first_broken (type_parameters_uses G U tparams)) (sym types_before) ∙ fine
 
     -- the parameters fail
-    pub head_fails_late : {Z : Type 0} (Is : Z → Type 0) (r : Result Z ScopeEnd) (end : ScopeEnd) → IsErrAnd r (λ e. e ≡ end) → Fails (first_broken (parameters_uses text G (record nl { types = T }) params)) end → Resolves (head_uses text G tparams params) Is r
-    head_fails_late Is r end is fails = passed_on Is (head_uses text G tparams params) r end is (fails_back (type_parameters_uses G no_parameters tparams) (parameters_uses text G (first_locals tparams) params) end fine_types (subst (λ (L : Locals). Fails (first_broken (parameters_uses text G L params)) end) locals_after fails))
+    pub heading_fails_late : {Z : Type 0} (Is : Z → Type 0) (r : Result Z ScopeEnd) (end : ScopeEnd) → IsErrAnd r (λ e. e ≡ end) → Fails (first_broken (parameters_uses text G (record nl { types = T }) params)) end → Resolves (heading_uses text G tparams params) Is r
+    heading_fails_late Is r end is fails = passed_on Is (heading_uses text G tparams params) r end is (fails_back (type_parameters_uses G no_parameters tparams) (parameters_uses text G (first_locals tparams) params) end fine_types (subst (λ (L : Locals). Fails (first_broken (parameters_uses text G L params)) end) locals_after fails))
 
     -- both are fine
-    pub head_fine : (both : Parameters) (after : Locals) → Fine (parameters_uses text G (record nl { types = T }) params) (AreBoth G T params) both → after ≡ fold with_parameter (record nl { types = T }) params → Fine (head_uses text G tparams params) (IsHead G tparams params) (record { locals = after; params = both })
-    head_fine both after (fine_params, are) is = (
+    pub heading_fine : (both : Parameters) (after : Locals) → Fine (parameters_uses text G (record nl { types = T }) params) (AreBoth G T params) both → after ≡ fold with_parameter (record nl { types = T }) params → Fine (heading_uses text G tparams params) (IsHeading G tparams params) (record { locals = after; params = both })
+    heading_fine both after (fine_params, are) is = (
       fine_both (type_parameters_uses G no_parameters tparams) (parameters_uses text G (first_locals tparams) params) fine_types (ap (λ (L : Locals). first_broken (parameters_uses text G L params)) (sym locals_after) ∙ fine_params),
       record {
         locals = is ∙ ap (λ (L : Locals). fold with_parameter L params) locals_after;

@@ -1,4 +1,4 @@
--- Lists of names no two of which are equal.
+-- Lists in which nothing stands twice.
 use Rattle.std.proofs.Common.{◌≡◌, ◌⊎◌, inl, inr, ⊎_elim, ℕ, zero, suc, ◌<◌, true, false, List, [], ◌∷◌, ◌++◌, length, refl, sym, ap, ◌∙◌, subst, arith, append-nil}
 use Rattle.std.specs.Prelude.{Contains, slice_index_or}
 use Rattle.std.specs.List.{list_any}
@@ -6,21 +6,22 @@ use Rattle.std.specs.Str.{bytes_eq}
 use Rattle.std.proofs.lemmas.Slice.Eq.{bytes_eq-Decides}
 use Rattle.std.proofs.lemmas.List.Folds.{list_any_at}
 use Rattle.std.proofs.lemmas.List.Elements.{Contains-push, Contains-append_left}
+use Rattle.px_base.specs.Distinct.{AreDistinct, more}
 use Rattle.px_scope.specs.Names.{is_name}
-use Rattle.px_scope.specs.Lawful.{AreDistinct, more}
 
-contains_later : (y : List ℕ) (xs : List (List ℕ)) (x : List ℕ) → Contains xs x → Contains (y ∷ xs) x
+-- what stands in a list stands in it with one item more in front
+pub contains_later : {A : Type 0} (y : A) (xs : List A) (x : A) → Contains xs x → Contains (y ∷ xs) x
 contains_later y xs x c = let within = c.1 in (suc c.0, omega arith, c.2)
 
-contains_cases_at : (y : List ℕ) (xs : List (List ℕ)) (x : List ℕ) (k : ℕ) → k < length (y ∷ xs) → slice_index_or (y ∷ xs) k x ≡ x → (y ≡ x) ⊎ Contains xs x
+contains_cases_at : {A : Type 0} (y : A) (xs : List A) (x : A) (k : ℕ) → k < length (y ∷ xs) → slice_index_or (y ∷ xs) k x ≡ x → (y ≡ x) ⊎ Contains xs x
 contains_cases_at y xs x zero within is = inl is
 contains_cases_at y xs x (suc k) within is = inr (k, omega arith, is)
 
-contains_cases : (y : List ℕ) (xs : List (List ℕ)) (x : List ℕ) → Contains (y ∷ xs) x → (y ≡ x) ⊎ Contains xs x
+contains_cases : {A : Type 0} (y : A) (xs : List A) (x : A) → Contains (y ∷ xs) x → (y ≡ x) ⊎ Contains xs x
 contains_cases y xs x c = contains_cases_at y xs x c.0 c.1 c.2
 
 -- what is in a list with one item more
-contains_at : (xs ys : List (List ℕ)) (x y : List ℕ) → Contains (xs ++ x ∷ ys) y → (x ≡ y) ⊎ Contains (xs ++ ys) y
+contains_at : {A : Type 0} (xs ys : List A) (x y : A) → Contains (xs ++ x ∷ ys) y → (x ≡ y) ⊎ Contains (xs ++ ys) y
 contains_at [] ys x y c = contains_cases x ys y c
 contains_at (z ∷ xs) ys x y c =
     ⊎_elim (λ (e : z ≡ y). inr (0, omega arith, e))
@@ -28,16 +29,28 @@ contains_at (z ∷ xs) ys x y c =
     (contains_cases z (xs ++ x ∷ ys) y c)
 
 -- one item more, which is not in the list
-distinct_at : (xs ys : List (List ℕ)) (x : List ℕ) → AreDistinct (xs ++ ys) → (Contains (xs ++ ys) x → ⊥) → AreDistinct (xs ++ x ∷ ys)
+distinct_at : {A : Type 0} (xs ys : List A) (x : A) → AreDistinct (xs ++ ys) → (Contains (xs ++ ys) x → ⊥) → AreDistinct (xs ++ x ∷ ys)
 distinct_at [] ys x distinct new = more new distinct
 distinct_at (y ∷ xs) ys x (more other rest) new =
     more (λ c. ⊎_elim (λ (e : x ≡ y). new (0, omega arith, sym e)) other (contains_at xs ys x y c))
     (distinct_at xs ys x rest (λ c. new (contains_later y (xs ++ ys) x c)))
 
 -- one item more at the end
-pub distinct_push : (xs : List (List ℕ)) (x : List ℕ) → AreDistinct xs → (Contains xs x → ⊥) → AreDistinct (xs ++ x ∷ [])
+pub distinct_push : {A : Type 0} (xs : List A) (x : A) → AreDistinct xs → (Contains xs x → ⊥) → AreDistinct (xs ++ x ∷ [])
 distinct_push xs x distinct new =
     distinct_at xs [] x (subst AreDistinct (sym (append-nil xs)) distinct) (λ c. new (subst (λ ys. Contains ys x) (append-nil xs) c))
+
+contains_middle : {A : Type 0} (xs ys : List A) (x : A) → Contains (xs ++ x ∷ ys) x
+contains_middle [] ys x = (0, omega arith, refl)
+contains_middle (y ∷ xs) ys x = contains_later y (xs ++ x ∷ ys) x (contains_middle xs ys x)
+
+-- an item is none of those before it
+pub none_before : {A : Type 0} (xs ys : List A) (x : A) → AreDistinct (xs ++ x ∷ ys) → Contains xs x → ⊥
+none_before [] ys x distinct c = let within = c.1 in absurd (omega arith)
+none_before (y ∷ xs) ys x (more other rest) c =
+    ⊎_elim (λ (e : y ≡ x). other (subst (Contains (xs ++ x ∷ ys)) (sym e) (contains_middle xs ys x)))
+    (none_before xs ys x rest)
+    (contains_cases y xs x c)
 
 -- a name that the test does not find is not in the list
 pub not_among : (names : List (List ℕ)) (name : List ℕ) → is_name names name ≡ false → Contains names name → ⊥

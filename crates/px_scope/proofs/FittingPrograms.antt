@@ -14,6 +14,7 @@ use Rattle.px_base.specs.declared.raw.RawData.{RawData}
 use Rattle.px_base.specs.declared.raw.RawDef.{RawDef}
 use Rattle.px_base.specs.declared.raw.RawClaim.{RawClaim}
 use Rattle.px_base.specs.declared.raw.RawProgram.{RawProgram}
+use Rattle.px_base.specs.Fitting.{AreInOrder, HasNames, def_props, claim_props, obligation_count, bool_alone, raw_bool, AreProperties, properties_of, IsFitting}
 use Rattle.px_parser.specs.declared.surface.SCon.{SCon}
 use Rattle.px_parser.specs.declared.surface.Item.{Item}
 use Rattle.px_parser.specs.declared.surface.Item.TheVariants as items
@@ -27,14 +28,17 @@ use Rattle.px_scope.specs.declared.globals.Meaning.{Meaning}
 use Rattle.px_scope.specs.declared.globals.Meaning.TheVariants as meaning
 use Rattle.px_scope.specs.declared.globals.Globals.{Globals}
 use Rattle.px_scope.specs.Standing.{meaning_of, built_in}
-use Rattle.px_scope.specs.Uses.{first_broken}
+use Rattle.px_scope.specs.Uses.{first_broken, along}
 use Rattle.px_scope.specs.Declaring.{props_of, constructor_names, with_datatype, with_constructors, function_count, with_claims_of, after}
-use Rattle.px_scope.specs.ItemUses.{text_uses}
-use Rattle.px_scope.specs.Programs.{IsNext, AreNext, raw_bool, start, IsNumbering}
-use Rattle.px_scope.specs.Fitting.{AreInOrder, HasNames, def_props, claim_props, obligation_count, bool_alone, IsFitting}
+use Rattle.px_scope.specs.ItemUses.{item_uses, text_uses}
+use Rattle.px_scope.specs.Programs.{IsNext, AreNext, start, IsNumbering}
 use Rattle.px_scope.specs.Answers.{Resolves}
-use Rattle.px_scope.proofs.FittingTerms.{IsMeaningIn}
-use Rattle.px_scope.proofs.FittingDeclarations.{constructors_count, IsDeclared, Agrees, IsFront, counts_of, meaning_weaker, data_in, def_in, claim_in, lemma_in, replica_in}
+use Rattle.px_scope.specs.Small.{IsSmall}
+use Rattle.px_scope.proofs.SmallSteps.{small_surface}
+use Rattle.px_scope.proofs.ShortPrograms.{one_longer, short_program}
+use Rattle.px_scope.proofs.FineParts.{fine_front, fine_back}
+use Rattle.px_scope.proofs.FittingDeclarations.{constructors_count, functions_are, IsDeclared, IsMeaningOf, Agrees, IsFront, counts_of, still_defined, data_in, def_in, claim_in, lemma_in, replica_in}
+use Rattle.px_scope.proofs.FittingProperties.{AreClaimed, next_claimed, first_claimed, properties_once}
 use Rattle.px_scope.proofs.ProgramSteps.{claims_types, claims_count}
 
 -- a list is the front of itself, and of the list with one item more
@@ -115,10 +119,22 @@ claims_constructors G (Some meaning.Replica) props = refl
 still_declared : (P Q : RawProgram) → IsFront P.datatypes Q.datatypes → (cons : List Constructor) → All (IsDeclared P) cons → All (IsDeclared Q) cons
 still_declared P Q front cons all = All-weaker (IsDeclared P) (IsDeclared Q) (λ con is. record { declared = is.declared; stands = front con.datatype is.declared is.stands; has = is.has }) cons all
 
+-- so is what a name stands for
+still_means : (P Q : RawProgram) → IsFront P.defs Q.defs → (m : Meaning) → IsMeaningOf P m → IsMeaningOf Q m
+still_means P Q front meaning.Wle is = tt
+still_means P Q front meaning.Weq is = tt
+still_means P Q front (meaning.Definition n functions) is = still_defined P Q front n functions is
+still_means P Q front meaning.Lemma is = tt
+still_means P Q front meaning.Replica is = tt
+
+still_meanings : (P Q : RawProgram) → Extends P Q → (ms : List Meaning) → All (IsMeaningOf P) ms → All (IsMeaningOf Q) ms
+still_meanings P Q extends ms all = All-weaker (IsMeaningOf P) (IsMeaningOf Q) (still_means P Q extends.defs) ms all
+
 -- what is declared still agrees with the program after one declaration more
 agrees_next : (G : Globals) (P : RawProgram) {item : Item} {Q : RawProgram} → Agrees G P → IsNext G P item Q → Agrees (after G item) Q
 agrees_next G P agrees (IsNext.datatype {d = d} {raw = raw} {result = Q} is e) =
-    let front : IsFront P.datatypes Q.datatypes = (next_extends G P (IsNext.datatype is e)).datatypes in
+    let extends = next_extends G P (IsNext.datatype is e) in
+    let front : IsFront P.datatypes Q.datatypes = extends.datatypes in
     let all : Q.datatypes ≡ P.datatypes ++ raw ∷ [] = ap (λ (x : RawProgram). x.datatypes) e in
     let defs : Q.defs ≡ P.defs = ap (λ (x : RawProgram). x.defs) e in
     let own = length G.datatypes in
@@ -130,53 +146,57 @@ agrees_next G P agrees (IsNext.datatype {d = d} {raw = raw} {result = Q} is e) =
       definitions = agrees.definitions ∙ ap length (sym defs);
       constructors = added_constructors (IsDeclared Q) own H d.cons (still_declared P Q front G.constructors agrees.constructors)
           (λ n below. record { declared = raw; stands = stands; has = omega arith });
-      meanings = rw defs agrees.meanings;
+      meanings = still_meanings P Q extends G.meanings agrees.meanings;
     }
 agrees_next G P agrees (IsNext.definition {d = d} {raw = raw} {result = Q} is e) =
-    let front : IsFront P.datatypes Q.datatypes = (next_extends G P (IsNext.definition is e)).datatypes in
+    let extends = next_extends G P (IsNext.definition is e) in
+    let front : IsFront P.datatypes Q.datatypes = extends.datatypes in
     let datatypes : Q.datatypes ≡ P.datatypes = ap (λ (x : RawProgram). x.datatypes) e in
     let defs : Q.defs ≡ P.defs ++ raw ∷ [] = ap (λ (x : RawProgram). x.defs) e in
-    let count : length Q.defs ≡ length P.defs + 1 = ap length defs ∙ length-append P.defs (raw ∷ []) in
+    let functions : length raw.funs ≡ function_count d.params = ap (λ (x : RawDef). length x.funs) is.is ∙ functions_are is.are_parameters in
+    let stands : slice_get Q.defs (length G.claimed) ≡ Some raw = rw (defs, agrees.definitions) (end_of P.defs raw) in
     let m = meaning.Definition (length G.claimed) (function_count d.params) in
     record {
       types = agrees.types ∙ ap length (sym datatypes);
-      definitions = omega (arith, agrees.definitions, length-append G.claimed (props_of d.props ∷ []));
+      definitions = omega (arith, agrees.definitions, length-append G.claimed (props_of d.props ∷ []), ap length defs, length-append P.defs (raw ∷ []));
       constructors = still_declared P Q front G.constructors agrees.constructors;
-      meanings = All-push (IsMeaningIn (length Q.defs)) G.meanings m
-          (All-weaker (IsMeaningIn (length P.defs)) (IsMeaningIn (length Q.defs)) (meaning_weaker (length P.defs) (length Q.defs) (omega arith)) G.meanings agrees.meanings)
-          (omega (arith, agrees.definitions));
+      meanings = All-push (IsMeaningOf Q) G.meanings m (still_meanings P Q extends G.meanings agrees.meanings)
+          (record { declared = raw; stands = stands; count = functions });
     }
 agrees_next G P agrees (IsNext.claim {c = c} {raw = raw} {result = Q} is e) =
     let datatypes : Q.datatypes ≡ P.datatypes = ap (λ (x : RawProgram). x.datatypes) e in
     let defs : Q.defs ≡ P.defs = ap (λ (x : RawProgram). x.defs) e in
-    let front : IsFront P.datatypes Q.datatypes = (next_extends G P (IsNext.claim is e)).datatypes in
+    let extends = next_extends G P (IsNext.claim is e) in
+    let front : IsFront P.datatypes Q.datatypes = extends.datatypes in
     let m = meaning_of G c.name.text in
     let props = props_of c.props in
     record {
       types = ap length (claims_types G m props) ∙ agrees.types ∙ ap length (sym datatypes);
       definitions = claims_count G m props ∙ agrees.definitions ∙ ap length (sym defs);
       constructors = rw (claims_constructors G m props) (still_declared P Q front G.constructors agrees.constructors);
-      meanings = rw (claims_meanings G m props, defs) agrees.meanings;
+      meanings = rw (claims_meanings G m props) (still_meanings P Q extends G.meanings agrees.meanings);
     }
 agrees_next G P agrees (IsNext.lemma {raw = raw} {result = Q} is e) =
     let datatypes : Q.datatypes ≡ P.datatypes = ap (λ (x : RawProgram). x.datatypes) e in
     let defs : Q.defs ≡ P.defs = ap (λ (x : RawProgram). x.defs) e in
-    let front : IsFront P.datatypes Q.datatypes = (next_extends G P (IsNext.lemma is e)).datatypes in
+    let extends = next_extends G P (IsNext.lemma is e) in
+    let front : IsFront P.datatypes Q.datatypes = extends.datatypes in
     record {
       types = agrees.types ∙ ap length (sym datatypes);
       definitions = agrees.definitions ∙ ap length (sym defs);
       constructors = still_declared P Q front G.constructors agrees.constructors;
-      meanings = All-push (IsMeaningIn (length Q.defs)) G.meanings meaning.Lemma (rw defs agrees.meanings) tt;
+      meanings = All-push (IsMeaningOf Q) G.meanings meaning.Lemma (still_meanings P Q extends G.meanings agrees.meanings) tt;
     }
 agrees_next G P agrees (IsNext.replica {raw = raw} {result = Q} is e) =
     let datatypes : Q.datatypes ≡ P.datatypes = ap (λ (x : RawProgram). x.datatypes) e in
     let defs : Q.defs ≡ P.defs = ap (λ (x : RawProgram). x.defs) e in
-    let front : IsFront P.datatypes Q.datatypes = (next_extends G P (IsNext.replica is e)).datatypes in
+    let extends = next_extends G P (IsNext.replica is e) in
+    let front : IsFront P.datatypes Q.datatypes = extends.datatypes in
     record {
       types = agrees.types ∙ ap length (sym datatypes);
       definitions = agrees.definitions ∙ ap length (sym defs);
       constructors = still_declared P Q front G.constructors agrees.constructors;
-      meanings = All-push (IsMeaningIn (length Q.defs)) G.meanings meaning.Replica (rw defs agrees.meanings) tt;
+      meanings = All-push (IsMeaningOf Q) G.meanings meaning.Replica (still_meanings P Q extends G.meanings agrees.meanings) tt;
     }
 
 -- what is built in agrees with the program of no declarations
@@ -187,11 +207,8 @@ agrees_first = record {
   constructors = All-cons (IsDeclared start) (record { datatype = 0; number = 0 }) (record { datatype = 0; number = 1 } ∷ [])
       (record { declared = raw_bool; stands = refl; has = omega arith })
       (All-cons (IsDeclared start) (record { datatype = 0; number = 1 }) [] (record { declared = raw_bool; stands = refl; has = omega arith }) (All-nil (IsDeclared start)));
-  meanings = All-cons (IsMeaningIn 0) meaning.Wle (meaning.Weq ∷ []) tt (All-cons (IsMeaningIn 0) meaning.Weq [] tt (All-nil (IsMeaningIn 0)));
+  meanings = All-cons (IsMeaningOf start) meaning.Wle (meaning.Weq ∷ []) tt (All-cons (IsMeaningOf start) meaning.Weq [] tt (All-nil (IsMeaningOf start)));
 }
-
-one_longer : {A : Type 0} (xs : List A) (x : A) → length (xs ++ x ∷ []) ≡ length xs + 1
-one_longer xs x = omega (arith, length-append xs (x ∷ []))
 
 -- What is left of the order after a program's declarations.
 record IsOrdered (P Q : RawProgram) : Type 0 where
@@ -203,10 +220,10 @@ order_next : (before between after rest : List Decl) (d : Decl) → between ≡ 
 order_next before between after rest d one all = all ∙ ap (λ ds. ds ++ rest) one ∙ append_assoc before (d ∷ []) rest
 
 -- the order from one declaration on
-ordered_next : (G : Globals) (P Q : RawProgram) {item : Item} {M : RawProgram} → Agrees G P → IsNext G P item M → Extends M Q → IsItemWithin item →
-    IsFilledItem item → item_size item < 2 ^ 32 → IsOrdered M Q → IsOrdered P Q
-ordered_next G P Q agrees (IsNext.datatype {d = d} {raw = raw} {result = M} is e) extends within filled small ordered =
-    let front = (extends_again P M Q (next_extends G P (IsNext.datatype is e)) extends).datatypes in
+ordered_next : (text : List Item) (G : Globals) (P Q : RawProgram) {item : Item} {M : RawProgram} → Agrees G P → IsNext G P item M → Extends M Q →
+    first_broken (item_uses text G item) ≡ None → IsItemWithin item → IsFilledItem item → item_size item < 2 ^ 32 → IsOrdered M Q → IsOrdered P Q
+ordered_next text G P Q agrees (IsNext.datatype {d = d} {raw = raw} {result = M} is e) extends fine within filled small ordered =
+    let whole = extends_again P M Q (next_extends G P (IsNext.datatype is e)) extends in
     let all : M.datatypes ≡ P.datatypes ++ raw ∷ [] = ap (λ (x : RawProgram). x.datatypes) e in
     let counts : counts_of M ≡ record (counts_of P) { datatypes = length P.datatypes + 1 } = ap counts_of e ∙ ap (λ n. record (counts_of P) { datatypes = n }) (one_longer P.datatypes raw) in
     record {
@@ -214,11 +231,11 @@ ordered_next G P Q agrees (IsNext.datatype {d = d} {raw = raw} {result = M} is e
       order = order_next P.order M.order Q.order ordered.rest (decl.Datatype (length P.datatypes)) (ap (λ (x : RawProgram). x.order) e) ordered.order;
       fits = AreInOrder.datatype refl
           (extends.datatypes (length P.datatypes) raw (rw all (end_of P.datatypes raw)))
-          (data_in G P Q agrees front d raw is filled within small)
+          (data_in text G P Q agrees whole.datatypes whole.defs d raw is fine filled within small)
           (subst (λ C. AreInOrder Q C ordered.rest) counts ordered.fits);
     }
-ordered_next G P Q agrees (IsNext.definition {d = d} {raw = raw} {result = M} is e) extends within filled small ordered =
-    let front = (extends_again P M Q (next_extends G P (IsNext.definition is e)) extends).datatypes in
+ordered_next text G P Q agrees (IsNext.definition {d = d} {raw = raw} {result = M} is e) extends fine within filled small ordered =
+    let whole = extends_again P M Q (next_extends G P (IsNext.definition is e)) extends in
     let all : M.defs ≡ P.defs ++ raw ∷ [] = ap (λ (x : RawProgram). x.defs) e in
     let counts : counts_of M ≡ record (counts_of P) { defs = length P.defs + 1 } = ap counts_of e ∙ ap (λ n. record (counts_of P) { defs = n }) (one_longer P.defs raw) in
     record {
@@ -226,11 +243,11 @@ ordered_next G P Q agrees (IsNext.definition {d = d} {raw = raw} {result = M} is
       order = order_next P.order M.order Q.order ordered.rest (decl.Definition (length P.defs)) (ap (λ (x : RawProgram). x.order) e) ordered.order;
       fits = AreInOrder.definition refl
           (extends.defs (length P.defs) raw (rw all (end_of P.defs raw)))
-          (def_in G P Q agrees front d raw is within small)
+          (def_in text G P Q agrees whole.datatypes whole.defs d raw is fine within small)
           (subst (λ C. AreInOrder Q C ordered.rest) counts ordered.fits);
     }
-ordered_next G P Q agrees (IsNext.claim {c = c} {raw = raw} {result = M} is e) extends within filled small ordered =
-    let front = (extends_again P M Q (next_extends G P (IsNext.claim is e)) extends).datatypes in
+ordered_next text G P Q agrees (IsNext.claim {c = c} {raw = raw} {result = M} is e) extends fine within filled small ordered =
+    let whole = extends_again P M Q (next_extends G P (IsNext.claim is e)) extends in
     let all : M.claims ≡ P.claims ++ raw ∷ [] = ap (λ (x : RawProgram). x.claims) e in
     let counts : counts_of M ≡ record (counts_of P) { claims = length P.claims + 1 } = ap counts_of e ∙ ap (λ n. record (counts_of P) { claims = n }) (one_longer P.claims raw) in
     record {
@@ -238,11 +255,11 @@ ordered_next G P Q agrees (IsNext.claim {c = c} {raw = raw} {result = M} is e) e
       order = order_next P.order M.order Q.order ordered.rest (decl.Claim (length P.claims)) (ap (λ (x : RawProgram). x.order) e) ordered.order;
       fits = AreInOrder.claim refl
           (extends.claims (length P.claims) raw (rw all (end_of P.claims raw)))
-          (claim_in G P Q agrees front c raw is small)
+          (claim_in text G P Q agrees whole.datatypes whole.defs c raw is small)
           (subst (λ C. AreInOrder Q C ordered.rest) counts ordered.fits);
     }
-ordered_next G P Q agrees (IsNext.lemma {l = l} {raw = raw} {result = M} is e) extends within filled small ordered =
-    let front = (extends_again P M Q (next_extends G P (IsNext.lemma is e)) extends).datatypes in
+ordered_next text G P Q agrees (IsNext.lemma {l = l} {raw = raw} {result = M} is e) extends fine within filled small ordered =
+    let whole = extends_again P M Q (next_extends G P (IsNext.lemma is e)) extends in
     let all : M.lemmas ≡ P.lemmas ++ raw ∷ [] = ap (λ (x : RawProgram). x.lemmas) e in
     let counts : counts_of M ≡ record (counts_of P) { lemmas = length P.lemmas + 1 } = ap counts_of e ∙ ap (λ n. record (counts_of P) { lemmas = n }) (one_longer P.lemmas raw) in
     record {
@@ -250,11 +267,11 @@ ordered_next G P Q agrees (IsNext.lemma {l = l} {raw = raw} {result = M} is e) e
       order = order_next P.order M.order Q.order ordered.rest (decl.Lemma (length P.lemmas)) (ap (λ (x : RawProgram). x.order) e) ordered.order;
       fits = AreInOrder.lemma refl
           (extends.lemmas (length P.lemmas) raw (rw all (end_of P.lemmas raw)))
-          (lemma_in G P Q agrees front l raw is within small)
+          (lemma_in text G P Q agrees whole.datatypes whole.defs l raw is fine within small)
           (subst (λ C. AreInOrder Q C ordered.rest) counts ordered.fits);
     }
-ordered_next G P Q agrees (IsNext.replica {r = r} {raw = raw} {result = M} is e) extends within filled small ordered =
-    let front = (extends_again P M Q (next_extends G P (IsNext.replica is e)) extends).datatypes in
+ordered_next text G P Q agrees (IsNext.replica {r = r} {raw = raw} {result = M} is e) extends fine within filled small ordered =
+    let whole = extends_again P M Q (next_extends G P (IsNext.replica is e)) extends in
     let all : M.replicas ≡ P.replicas ++ raw ∷ [] = ap (λ (x : RawProgram). x.replicas) e in
     let counts : counts_of M ≡ record (counts_of P) { replicas = length P.replicas + 1 } = ap counts_of e ∙ ap (λ n. record (counts_of P) { replicas = n }) (one_longer P.replicas raw) in
     record {
@@ -262,25 +279,37 @@ ordered_next G P Q agrees (IsNext.replica {r = r} {raw = raw} {result = M} is e)
       order = order_next P.order M.order Q.order ordered.rest (decl.Replica (length P.replicas)) (ap (λ (x : RawProgram). x.order) e) ordered.order;
       fits = AreInOrder.replica refl
           (extends.replicas (length P.replicas) raw (rw all (end_of P.replicas raw)))
-          (replica_in G P Q agrees front r raw is within small)
+          (replica_in text G P Q agrees whole.datatypes whole.defs r raw is fine within small)
           (subst (λ C. AreInOrder Q C ordered.rest) counts ordered.fits);
     }
 
 -- all declarations stand in order
-all_ordered : {G : Globals} {P : RawProgram} {text : List Item} {Q : RawProgram} → AreNext G P text Q → Agrees G P → All IsItemWithin text →
-    All IsFilledItem text → items_size text < 2 ^ 32 → IsOrdered P Q
-all_ordered {P = P} AreNext.none agrees within filled small = record {
+all_ordered : (whole : List Item) {G : Globals} {P : RawProgram} {text : List Item} {Q : RawProgram} → AreNext G P text Q → Agrees G P →
+    first_broken (along after (item_uses whole) G text) ≡ None → All IsItemWithin text → All IsFilledItem text → items_size text < 2 ^ 32 → IsOrdered P Q
+all_ordered whole {P = P} AreNext.none agrees fine within filled small = record {
   rest = [];
   order = sym (append-nil P.order);
   fits = AreInOrder.done (record { datatypes = refl; defs = refl; claims = refl; lemmas = refl; replicas = refl });
 }
-all_ordered {G = G} {P = P} {Q = R} (AreNext.more {Q = Q} {item = item} {text = text} first rest) agrees within filled small =
+all_ordered whole {G = G} {P = P} {Q = R} (AreNext.more {Q = Q} {item = item} {text = text} first rest) agrees fine within filled small =
     let sizes = items_size-cons item text in
-    ordered_next G P R agrees first (all_extend rest)
+    let here = item_uses whole G item in
+    let others = along after (item_uses whole) (after G item) text in
+    ordered_next whole G P R agrees first (all_extend rest)
+    (fine_front here others fine)
     (All-head IsItemWithin item text within)
     (All-head IsFilledItem item text filled)
     (omega arith)
-    (all_ordered rest (agrees_next G P agrees first) (All-tail IsItemWithin item text within) (All-tail IsFilledItem item text filled) (omega arith))
+    (all_ordered whole rest (agrees_next G P agrees first) (fine_back here others fine) (All-tail IsItemWithin item text within) (All-tail IsFilledItem item text filled) (omega arith))
+
+-- no property is declared twice
+all_once : (whole : List Item) {G : Globals} {P : RawProgram} {text : List Item} {Q : RawProgram} → AreNext G P text Q → Agrees G P → AreClaimed G P →
+    first_broken (along after (item_uses whole) G text) ≡ None → (n : ℕ) (raw : RawDef) → slice_get Q.defs n ≡ Some raw → AreProperties (properties_of Q n raw)
+all_once whole {G = G} {P = P} AreNext.none agrees claimed fine = properties_once G P agrees.definitions claimed
+all_once whole {G = G} {P = P} (AreNext.more {item = item} {text = text} first rest) agrees claimed fine =
+    let here = item_uses whole G item in
+    let others = along after (item_uses whole) (after G item) text in
+    all_once whole rest (agrees_next G P agrees first) (next_claimed whole G P agrees claimed first (fine_front here others fine)) (fine_back here others fine)
 
 both_longer : {A B : Type 0} (xs : List A) (ys : List B) (x : A) (y : B) → length xs ≡ length ys → length (xs ++ x ∷ []) ≡ length (ys ++ y ∷ [])
 both_longer xs ys x y same = omega (arith, one_longer xs x, one_longer ys y)
@@ -394,11 +423,14 @@ pub fitting_program : (surface : Surface) (P : RawProgram) → surface_size surf
     IsNumbering surface P → IsFitting P
 fitting_program surface P size within filled numbering =
     let small : items_size surface.items < 2 ^ 32 = omega arith in
-    let ordered = all_ordered numbering.numbered agrees_first within filled small in
+    let ordered = all_ordered surface.items numbering.numbered agrees_first numbering.lawful within filled small in
     let counted = all_counted numbering.numbered in
+    let items : IsSmall surface.items = small_surface surface size filled in
     record {
+      short = short_program surface.items P items.few numbering.numbered;
       bool = (all_extend numbering.numbered).datatypes 0 raw_bool refl;
       order = subst (AreInOrder P bool_alone) (sym ordered.order) ordered.fits;
+      properties = all_once surface.items numbering.numbered agrees_first first_claimed numbering.lawful;
       named = all_named numbering.numbered named_first;
       few = omega arith;
     }

@@ -1,5 +1,5 @@
 -- The names of a numbered program are lawful.
-use Rattle.std.proofs.Common.{◌≡◌, ℕ, Bool, true, false, List, [], ◌∷◌, ◌++◌, length, Option, Some, None, Result, Ok, Err, IfOk, refl, sym, ap, ◌∙◌, subst, append-nil, append_assoc}
+use Rattle.std.proofs.Common.{◌≡◌, ℕ, true, false, List, [], ◌∷◌, ◌++◌, length, Option, Some, None, Result, Ok, Err, IfOk, refl, sym, ap, ◌∙◌, subst, append-nil, append_assoc}
 use Rattle.std.specs.Prelude.{All, Contains, codes, flat_map}
 use Rattle.std.specs.List.{slice_get}
 use Rattle.std.proofs.lemmas.Grind.{flat_map-append}
@@ -7,7 +7,9 @@ use Rattle.std.proofs.lemmas.List.Elements.{All-nil, All-cons, All-head, All-tai
 use Rattle.px_base.specs.declared.names.Names.{Names}
 use Rattle.px_base.specs.declared.prop.Prop.{Prop}
 use Rattle.px_base.specs.declared.raw.RawProgram.{RawProgram}
-use Rattle.px_lexer.specs.Bytes.{is_name_part}
+use Rattle.px_base.specs.Distinct.{AreDistinct}
+use Rattle.px_base.specs.NameForms.{is_name_part, IsUpperName, IsLowerName}
+use Rattle.px_base.specs.Lawful.{type_names, con_names, lower_names, IsLawful}
 use Rattle.px_parser.specs.declared.surface.SCon.{SCon}
 use Rattle.px_parser.specs.declared.surface.SData.{SData}
 use Rattle.px_parser.specs.declared.surface.Item.{Item}
@@ -15,7 +17,6 @@ use Rattle.px_parser.specs.declared.surface.Item.TheVariants as items
 use Rattle.px_parser.specs.declared.surface.Surface.{Surface}
 use Rattle.px_parser.specs.Named.{IsNamedItem, AreNamed}
 use Rattle.px_scope.specs.declared.ends.ScopeEnd.{ScopeEnd}
-use Rattle.px_scope.specs.declared.ends.ScopeKind.{ScopeKind}
 use Rattle.px_scope.specs.declared.ends.ScopeKind.TheVariants.{Repeated}
 use Rattle.px_scope.specs.declared.globals.Meaning.{Meaning}
 use Rattle.px_scope.specs.declared.globals.Meaning.TheVariants as meaning
@@ -24,40 +25,15 @@ use Rattle.px_scope.specs.declared.locals.TypeLocals.{TypeLocals}
 use Rattle.px_scope.specs.Names.{is_name}
 use Rattle.px_scope.specs.Standing.{meaning_of, no_parameters, built_in}
 use Rattle.px_scope.specs.Rules.{broken_where, is_type_name}
-use Rattle.px_scope.specs.Uses.{Use, Broken, broken_or, first_broken, along, types_uses}
+use Rattle.px_scope.specs.Uses.{first_broken, along, types_uses}
 use Rattle.px_scope.specs.Declaring.{props_of, constructor_names, with_datatype, with_constructor_name, with_claims_of, after, data_locals}
 use Rattle.px_scope.specs.ItemUses.{type_parameters_uses, constructor_uses, constructors_uses, data_uses, item_uses, text_uses}
 use Rattle.px_scope.specs.Programs.{start, IsNext, AreNext, IsNumbering}
 use Rattle.px_scope.specs.Answers.{Resolves}
-use Rattle.px_scope.specs.Lawful.{AreDistinct, IsUpper, IsLower, type_names, con_names, lower_names, IsLawful}
-use Rattle.px_scope.proofs.Firsts.{back_broken, fine_first}
+use Rattle.px_scope.proofs.FineParts.{fine_parts, fine_front, fine_back, rule_kept}
+use Rattle.px_scope.proofs.NameFormFacts.{lower_name}
 use Rattle.px_scope.proofs.ProgramSteps.{claims_types}
 use Rattle.px_scope.proofs.DistinctNames.{distinct_push, not_among, distinct_more, within_more}
-
--- what follows where no name is broken
-fine_parts : (at : ℕ) (fault : Option ScopeKind) (rest : Option Broken) → broken_or at fault rest ≡ None → (fault ≡ None) × (rest ≡ None)
-fine_parts at None rest e = (refl, e)
-fine_parts at (Some kind) rest e = absurd cc
-
--- the first names break no rule
-fine_front : (us vs : List Use) → first_broken (us ++ vs) ≡ None → first_broken us ≡ None
-fine_front [] vs e = refl
-fine_front (u ∷ us) vs e =
-    let parts = fine_parts u.at u.fault (first_broken (us ++ vs)) e in
-    fine_first u.at u.fault us parts.0 (fine_front us vs parts.1)
-
--- nor do those after them
-fine_back : (us vs : List Use) → first_broken (us ++ vs) ≡ None → first_broken vs ≡ None
-fine_back us vs e = sym (back_broken us vs (fine_front us vs e)) ∙ e
-
--- a rule that is not broken
-not_broken : (test : Bool) (kind : ScopeKind) → broken_where test kind ≡ None → test ≡ false
-not_broken true kind e = absurd cc
-not_broken false kind e = refl
-
--- the rule of a first name
-rule_kept : (at : ℕ) (test : Bool) (rest : Option Broken) → broken_or at (broken_where test Repeated) rest ≡ None → test ≡ false
-rule_kept at test rest e = not_broken test Repeated (fine_parts at (broken_where test Repeated) rest e).0
 
 -- the first item stays
 first_stays : {A : Type 0} (xs : List A) (x y : A) → slice_get xs 0 ≡ Some y → slice_get (xs ++ x ∷ []) 0 ≡ Some y
@@ -130,8 +106,8 @@ datatype_stands text G names d fine named stand =
         constructors = subst AreDistinct (sym flat) (distinct_constructors text (data_locals own d.tparams) H d.cons rest (subst AreDistinct stand.cons lawful.constructors));
         lowers = lawful.lowers;
         forms = record {
-          datatypes = All-push IsUpper names.datatypes d.name.text forms.datatypes named.name;
-          cons = All-push (All IsUpper) names.cons (constructor_names d.cons) forms.cons (All-map IsUpper (λ (con : SCon). con.name.text) d.cons named.cons);
+          datatypes = All-push IsUpperName names.datatypes d.name.text forms.datatypes named.name;
+          cons = All-push (All IsUpperName) names.cons (constructor_names d.cons) forms.cons (All-map IsUpperName (λ (con : SCon). con.name.text) d.cons named.cons);
           defs = forms.defs;
           lemmas = forms.lemmas;
           replicas = forms.replicas;
@@ -150,7 +126,7 @@ abbrev two : List (List ℕ) → List (List ℕ)
 two xs = codes "wle" ∷ codes "weq" ∷ xs
 
 -- a definition more
-definition_stands : (G H : Globals) (names : Names) (name : List ℕ) → Follows G H name → is_name G.lowers name ≡ false → IsLower name → Stand G names
+definition_stands : (G H : Globals) (names : Names) (name : List ℕ) → Follows G H name → is_name G.lowers name ≡ false → IsLowerName name → Stand G names
     → Stand H (record names { defs = names.defs ++ name ∷ [] })
 definition_stands G H names name follows new named stand =
     let front = two names.defs in
@@ -168,12 +144,12 @@ definition_stands G H names name follows new named stand =
         types = lawful.types;
         constructors = lawful.constructors;
         lowers = distinct_more G.lowers (lower_names names) (two ((names.defs ++ name ∷ []) ++ back)) front back name refl all stand.lowers new lawful.lowers;
-        forms = record { datatypes = forms.datatypes; cons = forms.cons; lemmas = forms.lemmas; replicas = forms.replicas; defs = All-push IsLower names.defs name forms.defs named };
+        forms = record { datatypes = forms.datatypes; cons = forms.cons; lemmas = forms.lemmas; replicas = forms.replicas; defs = All-push IsLowerName names.defs name forms.defs named };
       };
     }
 
 -- a lemma more
-lemma_stands : (G H : Globals) (names : Names) (name : List ℕ) → Follows G H name → is_name G.lowers name ≡ false → IsLower name → Stand G names
+lemma_stands : (G H : Globals) (names : Names) (name : List ℕ) → Follows G H name → is_name G.lowers name ≡ false → IsLowerName name → Stand G names
     → Stand H (record names { lemmas = names.lemmas ++ name ∷ [] })
 lemma_stands G H names name follows new named stand =
     let front = two (names.defs ++ names.lemmas) in
@@ -195,12 +171,12 @@ lemma_stands G H names name follows new named stand =
         types = lawful.types;
         constructors = lawful.constructors;
         lowers = distinct_more G.lowers (lower_names names) after front back name before_is all stand.lowers new lawful.lowers;
-        forms = record { datatypes = forms.datatypes; cons = forms.cons; defs = forms.defs; replicas = forms.replicas; lemmas = All-push IsLower names.lemmas name forms.lemmas named };
+        forms = record { datatypes = forms.datatypes; cons = forms.cons; defs = forms.defs; replicas = forms.replicas; lemmas = All-push IsLowerName names.lemmas name forms.lemmas named };
       };
     }
 
 -- a replica more
-replica_stands : (G H : Globals) (names : Names) (name : List ℕ) → Follows G H name → is_name G.lowers name ≡ false → IsLower name → Stand G names
+replica_stands : (G H : Globals) (names : Names) (name : List ℕ) → Follows G H name → is_name G.lowers name ≡ false → IsLowerName name → Stand G names
     → Stand H (record names { replicas = names.replicas ++ name ∷ [] })
 replica_stands G H names name follows new named stand =
     let front = lower_names names in
@@ -220,7 +196,7 @@ replica_stands G H names name follows new named stand =
         types = lawful.types;
         constructors = lawful.constructors;
         lowers = distinct_more G.lowers front after front [] name (sym (append-nil front)) all stand.lowers new lawful.lowers;
-        forms = record { datatypes = forms.datatypes; cons = forms.cons; defs = forms.defs; lemmas = forms.lemmas; replicas = All-push IsLower names.replicas name forms.replicas named };
+        forms = record { datatypes = forms.datatypes; cons = forms.cons; defs = forms.defs; lemmas = forms.lemmas; replicas = All-push IsLowerName names.replicas name forms.replicas named };
       };
     }
 
@@ -233,7 +209,7 @@ next_stands text G P (IsNext.datatype {d = d} is e) fine named stand =
 next_stands text G P (IsNext.definition {d = d} is e) fine named stand =
     subst (λ (Q : RawProgram). Stand (after G (items.Definition d)) Q.names) (sym e)
     (definition_stands G (after G (items.Definition d)) P.names d.name.text (record { types = refl; cons = refl; lowers = refl })
-    (rule_kept d.name.at (is_name G.lowers d.name.text) _ fine) named stand)
+    (rule_kept d.name.at (is_name G.lowers d.name.text) _ fine) (lower_name d.name.text named) stand)
 next_stands text G P (IsNext.claim {c = c} is e) fine named stand =
     let m = meaning_of G c.name.text in
     let props = props_of c.props in
@@ -246,11 +222,11 @@ next_stands text G P (IsNext.claim {c = c} is e) fine named stand =
 next_stands text G P (IsNext.lemma {l = l} is e) fine named stand =
     subst (λ (Q : RawProgram). Stand (after G (items.Lemma l)) Q.names) (sym e)
     (lemma_stands G (after G (items.Lemma l)) P.names l.name.text (record { types = refl; cons = refl; lowers = refl })
-    (rule_kept l.name.at (is_name G.lowers l.name.text) _ fine) named stand)
+    (rule_kept l.name.at (is_name G.lowers l.name.text) _ fine) (lower_name l.name.text named) stand)
 next_stands text G P (IsNext.replica {r = r} is e) fine named stand =
     subst (λ (Q : RawProgram). Stand (after G (items.Replica r)) Q.names) (sym e)
     (replica_stands G (after G (items.Replica r)) P.names r.name.text (record { types = refl; cons = refl; lowers = refl })
-    (rule_kept r.name.at (is_name G.lowers r.name.text) _ fine) named stand)
+    (rule_kept r.name.at (is_name G.lowers r.name.text) _ fine) (lower_name r.name.text named) stand)
 
 -- so do declarations
 all_stand : (whole : List Item) {G : Globals} {P : RawProgram} {text : List Item} {Q : RawProgram} →
@@ -282,24 +258,24 @@ first_stands = record {
     constructors = distinct_two (codes "False") (codes "True") refl;
     lowers = distinct_two (codes "wle") (codes "weq") refl;
     forms = record {
-      datatypes = All-cons IsUpper (codes "Bool") [] is_bool (All-nil IsUpper);
-      cons = All-cons (All IsUpper) (codes "False" ∷ codes "True" ∷ []) []
-          (All-cons IsUpper (codes "False") (codes "True" ∷ []) is_false (All-cons IsUpper (codes "True") [] is_true (All-nil IsUpper)))
-          (All-nil (All IsUpper));
-      defs = All-nil IsLower;
-      lemmas = All-nil IsLower;
-      replicas = All-nil IsLower;
+      datatypes = All-cons IsUpperName (codes "Bool") [] is_bool (All-nil IsUpperName);
+      cons = All-cons (All IsUpperName) (codes "False" ∷ codes "True" ∷ []) []
+          (All-cons IsUpperName (codes "False") (codes "True" ∷ []) is_false (All-cons IsUpperName (codes "True") [] is_true (All-nil IsUpperName)))
+          (All-nil (All IsUpperName));
+      defs = All-nil IsLowerName;
+      lemmas = All-nil IsLowerName;
+      replicas = All-nil IsLowerName;
     };
   };
 }
   where
-    is_bool : IsUpper (codes "Bool")
+    is_bool : IsUpperName (codes "Bool")
     is_bool = record { first = refl; rest = All-from_recursion IsPart (codes "Bool") (refl, (refl, (refl, (refl, tt)))) }
 
-    is_false : IsUpper (codes "False")
+    is_false : IsUpperName (codes "False")
     is_false = record { first = refl; rest = All-from_recursion IsPart (codes "False") (refl, (refl, (refl, (refl, (refl, tt))))) }
 
-    is_true : IsUpper (codes "True")
+    is_true : IsUpperName (codes "True")
     is_true = record { first = refl; rest = All-from_recursion IsPart (codes "True") (refl, (refl, (refl, (refl, tt)))) }
 
 -- the names of a numbered program are lawful

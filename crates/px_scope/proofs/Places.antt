@@ -1,4 +1,5 @@
--- The places of the words that can count as a name in a tree, in the order of the text: names, properties, numbers and `match`.
+-- The places of the words that can count as a name in a tree, in the order of the text: of names and properties, and of numbers
+-- and `match`, which are other words.
 use Rattle.std.proofs.Common.{◌≡◌, ℕ, List, [], ◌∷◌, ◌++◌, map, Option, Some, None, refl, ap, sym, ◌∙◌}
 use Rattle.std.specs.List.{flat_map}
 use Rattle.px_base.specs.declared.raw.RawProp.{RawProp}
@@ -28,161 +29,162 @@ use Rattle.px_parser.specs.declared.surface.SReplica.{SReplica}
 use Rattle.px_parser.specs.declared.surface.Item.{Item}
 use Rattle.px_parser.specs.declared.surface.Item.TheVariants as items
 use Rattle.px_parser.specs.declared.surface.Surface.{Surface}
+use Rattle.px_scope.proofs.Sublists.{Place, name_at, other_at}
 
 -- all the lists, one after the other
-abbrev pub joined : List (List ℕ) → List ℕ
-joined lists = flat_map (λ (xs : List ℕ). xs) lists
+abbrev pub joined : List (List Place) → List Place
+joined lists = flat_map (λ (xs : List Place). xs) lists
 
-abbrev pub name_places : List Name → List ℕ
-name_places names = map (λ (n : Name). n.at) names
+abbrev pub name_places : List Name → List Place
+name_places names = map (λ (n : Name). name_at n.at) names
 
-abbrev pub prop_places : List RawProp → List ℕ
-prop_places props = map (λ (p : RawProp). p.at) props
+abbrev pub prop_places : List RawProp → List Place
+prop_places props = map (λ (p : RawProp). name_at p.at) props
 
-abbrev pub type_places_step : SType-F (List ℕ) → List ℕ
-type_places_step layer = layer.name.at ∷ joined layer.args
+abbrev pub type_places_step : SType-F (List Place) → List Place
+type_places_step layer = name_at layer.name.at ∷ joined layer.args
 
-abbrev pub type_places : SType → List ℕ
-type_places = fold-SType (List ℕ) type_places_step
+abbrev pub type_places : SType → List Place
+type_places = fold-SType (List Place) type_places_step
 
-abbrev pub types_places : List SType → List ℕ
+abbrev pub types_places : List SType → List Place
 types_places types = flat_map type_places types
 
-abbrev pub some_places : Option (List (List ℕ)) → List ℕ
+abbrev pub some_places : Option (List (List Place)) → List Place
 some_places (Some lists) = joined lists
 some_places None = []
 
-abbrev pub kind_places_step : SExprKind-F (ℕ → List ℕ) (List ℕ) (List ℕ) → ℕ → List ℕ
-kind_places_step (SExprKind-F.Number n) at = at ∷ []
-kind_places_step (SExprKind-F.Upper name types fields) at = name.at ∷ (types_places types ++ joined fields)
-kind_places_step (SExprKind-F.Lower name types args) at = name.at ∷ (types_places types ++ some_places args)
-kind_places_step (SExprKind-F.Match on arms) at = at ∷ (on ++ joined arms)
+abbrev pub kind_places_step : SExprKind-F (ℕ → List Place) (List Place) (List Place) → ℕ → List Place
+kind_places_step (SExprKind-F.Number n) at = other_at at ∷ []
+kind_places_step (SExprKind-F.Upper name types fields) at = name_at name.at ∷ (types_places types ++ joined fields)
+kind_places_step (SExprKind-F.Lower name types args) at = name_at name.at ∷ (types_places types ++ some_places args)
+kind_places_step (SExprKind-F.Match on arms) at = other_at at ∷ (on ++ joined arms)
 
-abbrev pub arm_places_step : SArm-F (ℕ → List ℕ) (List ℕ) (List ℕ) → List ℕ
-arm_places_step arm = arm.name.at ∷ (name_places arm.vars ++ arm.body)
+abbrev pub arm_places_step : SArm-F (ℕ → List Place) (List Place) (List Place) → List Place
+arm_places_step arm = name_at arm.name.at ∷ (name_places arm.vars ++ arm.body)
 
-abbrev pub expr_places_step : SExpr-F (ℕ → List ℕ) (List ℕ) (List ℕ) → List ℕ
+abbrev pub expr_places_step : SExpr-F (ℕ → List Place) (List Place) (List Place) → List Place
 expr_places_step e = e.kind e.at
 
-abbrev pub kind_places : SExprKind → ℕ → List ℕ
-kind_places = fold-SExprKind (ℕ → List ℕ) (List ℕ) (List ℕ) kind_places_step arm_places_step expr_places_step
+abbrev pub kind_places : SExprKind → ℕ → List Place
+kind_places = fold-SExprKind (ℕ → List Place) (List Place) (List Place) kind_places_step arm_places_step expr_places_step
 
-abbrev pub expr_places : SExpr → List ℕ
-expr_places = fold-SExpr (ℕ → List ℕ) (List ℕ) (List ℕ) kind_places_step arm_places_step expr_places_step
+abbrev pub expr_places : SExpr → List Place
+expr_places = fold-SExpr (ℕ → List Place) (List Place) (List Place) kind_places_step arm_places_step expr_places_step
 
-abbrev pub exprs_places : List SExpr → List ℕ
+abbrev pub exprs_places : List SExpr → List Place
 exprs_places exprs = flat_map expr_places exprs
 
-abbrev pub args_places : Option (List SExpr) → List ℕ
+abbrev pub args_places : Option (List SExpr) → List Place
 args_places (Some args) = exprs_places args
 args_places None = []
 
-abbrev pub arm_places : SArm → List ℕ
-arm_places = fold-SArm (ℕ → List ℕ) (List ℕ) (List ℕ) kind_places_step arm_places_step expr_places_step
+abbrev pub arm_places : SArm → List Place
+arm_places = fold-SArm (ℕ → List Place) (List Place) (List Place) kind_places_step arm_places_step expr_places_step
 
-abbrev pub arms_places : List SArm → List ℕ
+abbrev pub arms_places : List SArm → List Place
 arms_places arms = flat_map arm_places arms
 
-abbrev pub fn_type_places : SFnType → List ℕ
+abbrev pub fn_type_places : SFnType → List Place
 fn_type_places f = types_places f.params ++ (type_places f.result ++ prop_places f.props)
 
-abbrev pub param_kind_places : SParamKind → List ℕ
+abbrev pub param_kind_places : SParamKind → List Place
 param_kind_places (param_kinds.Value s) = type_places s
 param_kind_places (param_kinds.Function f) = fn_type_places f
 
-abbrev pub param_places : SParam → List ℕ
-param_places p = p.name.at ∷ param_kind_places p.kind
+abbrev pub param_places : SParam → List Place
+param_places p = name_at p.name.at ∷ param_kind_places p.kind
 
-abbrev pub params_places : List SParam → List ℕ
+abbrev pub params_places : List SParam → List Place
 params_places params = flat_map param_places params
 
-abbrev pub con_places : SCon → List ℕ
-con_places con = con.name.at ∷ types_places con.fields
+abbrev pub con_places : SCon → List Place
+con_places con = name_at con.name.at ∷ types_places con.fields
 
-abbrev pub cons_places : List SCon → List ℕ
+abbrev pub cons_places : List SCon → List Place
 cons_places cons = flat_map con_places cons
 
-abbrev pub data_places : SData → List ℕ
-data_places d = d.name.at ∷ (name_places d.tparams ++ cons_places d.cons)
+abbrev pub data_places : SData → List Place
+data_places d = name_at d.name.at ∷ (name_places d.tparams ++ cons_places d.cons)
 
-abbrev pub def_places : SDef → List ℕ
-def_places d = d.name.at ∷ (name_places d.tparams ++ (params_places d.params ++ (type_places d.result ++ (prop_places d.props ++ expr_places d.body))))
+abbrev pub def_places : SDef → List Place
+def_places d = name_at d.name.at ∷ (name_places d.tparams ++ (params_places d.params ++ (type_places d.result ++ (prop_places d.props ++ expr_places d.body))))
 
-abbrev pub claim_places : SClaim → List ℕ
-claim_places c = c.name.at ∷ prop_places c.props
+abbrev pub claim_places : SClaim → List Place
+claim_places c = name_at c.name.at ∷ prop_places c.props
 
-abbrev pub equation_places : SEquation → List ℕ
+abbrev pub equation_places : SEquation → List Place
 equation_places e = expr_places e.left ++ expr_places e.right
 
-abbrev pub equations_places : List SEquation → List ℕ
+abbrev pub equations_places : List SEquation → List Place
 equations_places equations = flat_map equation_places equations
 
-abbrev pub lemma_places : SLemma → List ℕ
-lemma_places l = l.name.at ∷ (name_places l.tparams ++ (params_places l.params ++ equations_places l.equations))
+abbrev pub lemma_places : SLemma → List Place
+lemma_places l = name_at l.name.at ∷ (name_places l.tparams ++ (params_places l.params ++ equations_places l.equations))
 
-abbrev pub fun_places : SFun → List ℕ
-fun_places f = f.name.at ∷ types_places f.args
+abbrev pub fun_places : SFun → List Place
+fun_places f = name_at f.name.at ∷ types_places f.args
 
-abbrev pub funs_places : List SFun → List ℕ
+abbrev pub funs_places : List SFun → List Place
 funs_places funs = flat_map fun_places funs
 
-abbrev pub replica_places : SReplica → List ℕ
-replica_places r = r.name.at ∷ (type_places r.state ++ (expr_places r.from ++ (fun_places r.merge ++ funs_places r.funs)))
+abbrev pub replica_places : SReplica → List Place
+replica_places r = name_at r.name.at ∷ (type_places r.state ++ (expr_places r.from ++ (fun_places r.merge ++ funs_places r.funs)))
 
-abbrev pub item_places : Item → List ℕ
+abbrev pub item_places : Item → List Place
 item_places (items.Datatype d) = data_places d
 item_places (items.Definition d) = def_places d
 item_places (items.Claim c) = claim_places c
 item_places (items.Lemma l) = lemma_places l
 item_places (items.Replica r) = replica_places r
 
-abbrev pub items_places : List Item → List ℕ
+abbrev pub items_places : List Item → List Place
 items_places items = flat_map item_places items
 
-abbrev pub surface_places : Surface → List ℕ
+abbrev pub surface_places : Surface → List Place
 surface_places surface = items_places surface.items
 
 -- lists that are mapped to, one after the other
-pub joined-map : {X : Type 0} (f : X → List ℕ) (xs : List X) → joined (map f xs) ≡ flat_map f xs
+pub joined-map : {X : Type 0} (f : X → List Place) (xs : List X) → joined (map f xs) ≡ flat_map f xs
 joined-map f [] = refl
-joined-map f (x ∷ xs) = ap (λ (rest : List ℕ). f x ++ rest) (joined-map f xs)
+joined-map f (x ∷ xs) = ap (λ (rest : List Place). f x ++ rest) (joined-map f xs)
 
-pub type_places-roll : (name : Name) (args : List SType) → type_places (roll-SType (record { name = name; args = args })) ≡ name.at ∷ types_places args
+pub type_places-roll : (name : Name) (args : List SType) → type_places (roll-SType (record { name = name; args = args })) ≡ name_at name.at ∷ types_places args
 type_places-roll name args =
-    fold-roll-SType (List ℕ) type_places_step (record { name = name; args = args }) ∙ ap (λ (rest : List ℕ). name.at ∷ rest) (joined-map type_places args)
+    fold-roll-SType (List Place) type_places_step (record { name = name; args = args }) ∙ ap (λ (rest : List Place). name_at name.at ∷ rest) (joined-map type_places args)
 
-pub type_places-out : (s : SType) → type_places s ≡ (out-SType s).name.at ∷ types_places (out-SType s).args
-type_places-out s = fold_out-SType (List ℕ) type_places_step s ∙ ap (λ (rest : List ℕ). (out-SType s).name.at ∷ rest) (joined-map type_places (out-SType s).args)
+pub type_places-out : (s : SType) → type_places s ≡ name_at (out-SType s).name.at ∷ types_places (out-SType s).args
+type_places-out s = fold_out-SType (List Place) type_places_step s ∙ ap (λ (rest : List Place). name_at (out-SType s).name.at ∷ rest) (joined-map type_places (out-SType s).args)
 
 pub expr_places-kind : (e : SExpr) → expr_places e ≡ kind_places e.kind e.at
-expr_places-kind e = ap (λ (xs : List ℕ). xs) (fold_out-SExpr (ℕ → List ℕ) (List ℕ) (List ℕ) kind_places_step arm_places_step expr_places_step e)
+expr_places-kind e = ap (λ (xs : List Place). xs) (fold_out-SExpr (ℕ → List Place) (List Place) (List Place) kind_places_step arm_places_step expr_places_step e)
 
-pub arm_places-parts : (arm : SArm) → arm_places arm ≡ arm.name.at ∷ (name_places arm.vars ++ expr_places arm.body)
-arm_places-parts arm = fold_out-SArm (ℕ → List ℕ) (List ℕ) (List ℕ) kind_places_step arm_places_step expr_places_step arm
+pub arm_places-parts : (arm : SArm) → arm_places arm ≡ name_at arm.name.at ∷ (name_places arm.vars ++ expr_places arm.body)
+arm_places-parts arm = fold_out-SArm (ℕ → List Place) (List Place) (List Place) kind_places_step arm_places_step expr_places_step arm
 
 module _ (at : ℕ) where
-  pub kind_places-Number : (n : ℕ) → kind_places (Number n) at ≡ at ∷ []
+  pub kind_places-Number : (n : ℕ) → kind_places (Number n) at ≡ other_at at ∷ []
   kind_places-Number n =
       ap (λ (k : SExprKind). kind_places k at) (sym (rolls-Number n))
-      ∙ ap (λ (f : ℕ → List ℕ). f at) (fold-roll-SExprKind (ℕ → List ℕ) (List ℕ) (List ℕ) kind_places_step arm_places_step expr_places_step (SExprKind-F.Number n))
+      ∙ ap (λ (f : ℕ → List Place). f at) (fold-roll-SExprKind (ℕ → List Place) (List Place) (List Place) kind_places_step arm_places_step expr_places_step (SExprKind-F.Number n))
 
-  pub kind_places-Upper : (name : Name) (types : List SType) (fields : List SExpr) → kind_places (Upper name types fields) at ≡ name.at ∷ (types_places types ++ exprs_places fields)
+  pub kind_places-Upper : (name : Name) (types : List SType) (fields : List SExpr) → kind_places (Upper name types fields) at ≡ name_at name.at ∷ (types_places types ++ exprs_places fields)
   kind_places-Upper name types fields =
       ap (λ (k : SExprKind). kind_places k at) (sym (rolls-Upper name types fields))
-      ∙ ap (λ (f : ℕ → List ℕ). f at) (fold-roll-SExprKind (ℕ → List ℕ) (List ℕ) (List ℕ) kind_places_step arm_places_step expr_places_step (SExprKind-F.Upper name types fields))
-      ∙ ap (λ (rest : List ℕ). name.at ∷ (types_places types ++ rest)) (joined-map expr_places fields)
+      ∙ ap (λ (f : ℕ → List Place). f at) (fold-roll-SExprKind (ℕ → List Place) (List Place) (List Place) kind_places_step arm_places_step expr_places_step (SExprKind-F.Upper name types fields))
+      ∙ ap (λ (rest : List Place). name_at name.at ∷ (types_places types ++ rest)) (joined-map expr_places fields)
 
-  pub kind_places-Lower : (name : Name) (types : List SType) (args : Option (List SExpr)) → kind_places (Lower name types args) at ≡ name.at ∷ (types_places types ++ args_places args)
+  pub kind_places-Lower : (name : Name) (types : List SType) (args : Option (List SExpr)) → kind_places (Lower name types args) at ≡ name_at name.at ∷ (types_places types ++ args_places args)
   kind_places-Lower name types (Some args) =
       ap (λ (k : SExprKind). kind_places k at) (sym (rolls-Lower name types (Some args)))
-      ∙ ap (λ (f : ℕ → List ℕ). f at) (fold-roll-SExprKind (ℕ → List ℕ) (List ℕ) (List ℕ) kind_places_step arm_places_step expr_places_step (SExprKind-F.Lower name types (Some args)))
-      ∙ ap (λ (rest : List ℕ). name.at ∷ (types_places types ++ rest)) (joined-map expr_places args)
+      ∙ ap (λ (f : ℕ → List Place). f at) (fold-roll-SExprKind (ℕ → List Place) (List Place) (List Place) kind_places_step arm_places_step expr_places_step (SExprKind-F.Lower name types (Some args)))
+      ∙ ap (λ (rest : List Place). name_at name.at ∷ (types_places types ++ rest)) (joined-map expr_places args)
   kind_places-Lower name types None =
       ap (λ (k : SExprKind). kind_places k at) (sym (rolls-Lower name types None))
-      ∙ ap (λ (f : ℕ → List ℕ). f at) (fold-roll-SExprKind (ℕ → List ℕ) (List ℕ) (List ℕ) kind_places_step arm_places_step expr_places_step (SExprKind-F.Lower name types None))
+      ∙ ap (λ (f : ℕ → List Place). f at) (fold-roll-SExprKind (ℕ → List Place) (List Place) (List Place) kind_places_step arm_places_step expr_places_step (SExprKind-F.Lower name types None))
 
-  pub kind_places-Match : (on : SExpr) (arms : List SArm) → kind_places (Match on arms) at ≡ at ∷ (expr_places on ++ arms_places arms)
+  pub kind_places-Match : (on : SExpr) (arms : List SArm) → kind_places (Match on arms) at ≡ other_at at ∷ (expr_places on ++ arms_places arms)
   kind_places-Match on arms =
       ap (λ (k : SExprKind). kind_places k at) (sym (rolls-Match on arms))
-      ∙ ap (λ (f : ℕ → List ℕ). f at) (fold-roll-SExprKind (ℕ → List ℕ) (List ℕ) (List ℕ) kind_places_step arm_places_step expr_places_step (SExprKind-F.Match on arms))
-      ∙ ap (λ (rest : List ℕ). at ∷ (expr_places on ++ rest)) (joined-map arm_places arms)
+      ∙ ap (λ (f : ℕ → List Place). f at) (fold-roll-SExprKind (ℕ → List Place) (List Place) (List Place) kind_places_step arm_places_step expr_places_step (SExprKind-F.Match on arms))
+      ∙ ap (λ (rest : List Place). other_at at ∷ (expr_places on ++ rest)) (joined-map arm_places arms)

@@ -26,7 +26,7 @@ use Rattle.px_scope.specs.Rules.{new_lower_fault}
 use Rattle.px_scope.specs.Uses.{Use, first_broken, type_uses, From, expr_uses, function_uses}
 use Rattle.px_scope.specs.Numbers.{IsType, IsTerm, IsFunction, AreFunctions}
 use Rattle.px_scope.specs.Declaring.{with_lower, parameter_locals, after}
-use Rattle.px_scope.specs.ItemUses.{head_uses, equation_uses, lemma_uses, merge_uses, replica_uses}
+use Rattle.px_scope.specs.ItemUses.{heading_uses, equation_uses, lemma_uses, merge_uses, replica_uses}
 use Rattle.px_scope.specs.Programs.{IsEquation, AreEquations, IsLemma, IsReplica}
 use Rattle.px_scope.specs.Answers.{Fails, Fine, Resolves}
 use Rattle.px_scope.proofs.Firsts.{fine_first, fine_both, fails_front, fails_back, fails_later, passed_on}
@@ -114,23 +114,23 @@ module _ (text : List Item) (G : Globals) (s : SLemma) (new : new_lower_fault G 
   abbrev L0 : Locals
   L0 = parameter_locals s.tparams s.params
 
-  abbrev lemma_head : List Use
-  lemma_head = head_uses text G s.tparams s.params
+  abbrev lemma_heading : List Use
+  lemma_heading = heading_uses text G s.tparams s.params
 
   abbrev equations : List Use
   equations = flat_map (equation_uses text LH L0) s.equations
 
-  lemma_fails : {Z : Type 0} (Is : Z → Type 0) (r : Result Z ScopeEnd) (end : ScopeEnd) → IsErrAnd r (λ e. e ≡ end) → Fails (first_broken (lemma_head ++ equations)) end → Resolves (lemma_uses text G s) Is r
-  lemma_fails Is r end is h = passed_on Is (lemma_uses text G s) r end is (fails_later s.name.at (new_lower_fault G s.name.text) (lemma_head ++ equations) end new h)
+  lemma_fails : {Z : Type 0} (Is : Z → Type 0) (r : Result Z ScopeEnd) (end : ScopeEnd) → IsErrAnd r (λ e. e ≡ end) → Fails (first_broken (lemma_heading ++ equations)) end → Resolves (lemma_uses text G s) Is r
+  lemma_fails Is r end is h = passed_on Is (lemma_uses text G s) r end is (fails_later s.name.at (new_lower_fault G s.name.text) (lemma_heading ++ equations) end new h)
 
-  -- its head fails
-  pub lemma_head_fails : {Z : Type 0} (Is : Z → Type 0) (r : Result Z ScopeEnd) (end : ScopeEnd) → IsErrAnd r (λ e. e ≡ end) → (ns : List Name) (ps : List SParam) → ns ≡ s.tparams → ps ≡ s.params → Fails (first_broken (head_uses text G ns ps)) end → Resolves (lemma_uses text G s) Is r
-  lemma_head_fails Is r end is ns ps ns_are ps_are h = lemma_fails Is r end is (fails_front lemma_head equations end (subst (λ xs. Fails (first_broken (head_uses text G s.tparams xs)) end) ps_are (subst (λ xs. Fails (first_broken (head_uses text G xs ps)) end) ns_are h)))
+  -- its heading fails
+  pub lemma_heading_fails : {Z : Type 0} (Is : Z → Type 0) (r : Result Z ScopeEnd) (end : ScopeEnd) → IsErrAnd r (λ e. e ≡ end) → (ns : List Name) (ps : List SParam) → ns ≡ s.tparams → ps ≡ s.params → Fails (first_broken (heading_uses text G ns ps)) end → Resolves (lemma_uses text G s) Is r
+  lemma_heading_fails Is r end is ns ps ns_are ps_are h = lemma_fails Is r end is (fails_front lemma_heading equations end (subst (λ xs. Fails (first_broken (heading_uses text G s.tparams xs)) end) ps_are (subst (λ xs. Fails (first_broken (heading_uses text G xs ps)) end) ns_are h)))
 
-  module _ (locals : Locals) (both : Parameters) (ns : List Name) (ps : List SParam) (ns_are : ns ≡ s.tparams) (ps_are : ps ≡ s.params) (fine_head_of : first_broken (head_uses text G ns ps) ≡ None) (given : Opened G ns ps locals both)
+  module _ (locals : Locals) (both : Parameters) (ns : List Name) (ps : List SParam) (ns_are : ns ≡ s.tparams) (ps_are : ps ≡ s.params) (fine_heading_of : first_broken (heading_uses text G ns ps) ≡ None) (given : Opened G ns ps locals both)
       (K : Globals) (declares : K ≡ LH) (es : List SEquation) (es_are : es ≡ s.equations) (last : ℕ) (some : 0 < length es) (last_is : last ≡ length es - 1) where
-    fine_lemma_head : first_broken lemma_head ≡ None
-    fine_lemma_head = subst (λ xs. first_broken (head_uses text G s.tparams xs) ≡ None) ps_are (subst (λ xs. first_broken (head_uses text G xs ps) ≡ None) ns_are fine_head_of)
+    fine_lemma_heading : first_broken lemma_heading ≡ None
+    fine_lemma_heading = subst (λ xs. first_broken (heading_uses text G s.tparams xs) ≡ None) ps_are (subst (λ xs. first_broken (heading_uses text G xs ps) ≡ None) ns_are fine_heading_of)
 
     is_open : Opened G s.tparams s.params locals both
     is_open = subst (λ xs. Opened G s.tparams xs locals both) ps_are (subst (λ xs. Opened G xs ps locals both) ns_are given)
@@ -149,7 +149,7 @@ module _ (text : List Item) (G : Globals) (s : SLemma) (new : new_lower_fault G 
 
     -- its premises fail
     pub lemma_premises_fail : {Z : Type 0} (Is : Z → Type 0) (r : Result Z ScopeEnd) (end : ScopeEnd) → IsErrAnd r (λ e. e ≡ end) → Fails (first_broken (flat_map (equation_uses text K locals) (take last es))) end → Resolves (lemma_uses text G s) Is r
-    lemma_premises_fail Is r end is h = lemma_fails Is r end is (fails_back lemma_head equations end fine_lemma_head (rw (front_of) (fails_front (flat_map (equation_uses text LH L0) (take last es)) (flat_map (equation_uses text LH L0) (drop last es)) end (there (λ J L. Fails (first_broken (flat_map (equation_uses text J L) (take last es))) end) h))))
+    lemma_premises_fail Is r end is h = lemma_fails Is r end is (fails_back lemma_heading equations end fine_lemma_heading (rw (front_of) (fails_front (flat_map (equation_uses text LH L0) (take last es)) (flat_map (equation_uses text LH L0) (drop last es)) end (there (λ J L. Fails (first_broken (flat_map (equation_uses text J L) (take last es))) end) h))))
 
     module _ (fine_premises_of : first_broken (flat_map (equation_uses text K locals) (take last es)) ≡ None) where
       fine_premises : first_broken (flat_map (equation_uses text LH L0) (take last es)) ≡ None
@@ -157,7 +157,7 @@ module _ (text : List Item) (G : Globals) (s : SLemma) (new : new_lower_fault G 
 
       -- its conclusion fails
       pub lemma_conclusion_fails : {Z : Type 0} (Is : Z → Type 0) (r : Result Z ScopeEnd) (end : ScopeEnd) → IsErrAnd r (λ e. e ≡ end) → (x : SEquation) → x ≡ get_or es last x → Fails (first_broken (equation_uses text K locals x)) end → Resolves (lemma_uses text G s) Is r
-      lemma_conclusion_fails Is r end is x at h = lemma_fails Is r end is (fails_back lemma_head equations end fine_lemma_head (rw (names_of x at) (fails_back (flat_map (equation_uses text LH L0) (take last es)) (equation_uses text LH L0 x) end fine_premises (there (λ J L. Fails (first_broken (equation_uses text J L x)) end) h))))
+      lemma_conclusion_fails Is r end is x at h = lemma_fails Is r end is (fails_back lemma_heading equations end fine_lemma_heading (rw (names_of x at) (fails_back (flat_map (equation_uses text LH L0) (take last es)) (equation_uses text LH L0 x) end fine_premises (there (λ J L. Fails (first_broken (equation_uses text J L x)) end) h))))
 
       -- all is fine
       pub lemma_fine : (x : SEquation) → x ≡ get_or es last x → (premises : List RawEquation) (conclusion : RawEquation) (count : ℕ) → AreEquations K locals (take last es) premises → Fine (equation_uses text K locals x) (IsEquation K locals x) conclusion → count ≡ length s.tparams
@@ -166,7 +166,7 @@ module _ (text : List Item) (G : Globals) (s : SLemma) (new : new_lower_fault G 
           let fine_conclusion : first_broken (equation_uses text LH L0 x) ≡ None = there (λ J L. first_broken (equation_uses text J L x) ≡ None) fine_of in
           let fine_equations : first_broken equations ≡ None = ap first_broken (names_of x at) ∙ fine_both (flat_map (equation_uses text LH L0) (take last es)) (equation_uses text LH L0 x) fine_premises fine_conclusion in
           let all : AreEquations LH L0 (take last es ++ x ∷ []) (premises ++ conclusion ∷ []) = equations_push LH L0 (take last es) premises x conclusion (there (λ J L. AreEquations J L (take last es) premises) are) (there (λ J L. IsEquation J L x conclusion) is) in (
-            fine_first s.name.at (new_lower_fault G s.name.text) (lemma_head ++ equations) new (fine_both lemma_head equations fine_lemma_head fine_equations),
+            fine_first s.name.at (new_lower_fault G s.name.text) (lemma_heading ++ equations) new (fine_both lemma_heading equations fine_lemma_heading fine_equations),
             (
               record {
                 funs = both.funs;

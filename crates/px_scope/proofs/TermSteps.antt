@@ -64,11 +64,12 @@ arms_push G L _ _ arm a no_arms is = more_arms is.stands is.is_body is.is no_arm
 arms_push G L _ _ arm a (more_arms {arms = arms} {cases = cases} stands body e others) is = more_arms stands body e (arms_push G L arms cases arm a others is)
 
 -- the names of folded parts are those of the parts
-parts_are : {X : Type 0} (f : X → Seen) (role : Role) (L : Locals) (xs : List X) → flat_map (λ (s : Seen). s role L) (map f xs) ≡ flat_map (λ (x : X). f x role L) xs
+pub parts_are : {X : Type 0} (f : X → Seen) (role : Role) (L : Locals) (xs : List X) → flat_map (λ (s : Seen). s role L) (map f xs) ≡ flat_map (λ (x : X). f x role L) xs
 parts_are f role L [] = refl
 parts_are f role L (x ∷ xs) = ap (λ us. f x role L ++ us) (parts_are f role L xs)
 
-arms_are : {X : Type 0} (f : X → Locals → List Use) (L : Locals) (xs : List X) → flat_map (λ (s : Locals → List Use). s L) (map f xs) ≡ flat_map (λ (x : X). f x L) xs
+-- so are those of folded arms
+pub arms_are : {X : Type 0} (f : X → Locals → List Use) (L : Locals) (xs : List X) → flat_map (λ (s : Locals → List Use). s L) (map f xs) ≡ flat_map (λ (x : X). f x L) xs
 arms_are f L [] = refl
 arms_are f L (x ∷ xs) = ap (λ us. f x L ++ us) (arms_are f L xs)
 

@@ -3,6 +3,8 @@ use Rattle.std.proofs.Common.{◌≡◌, ℕ, zero, suc, ◌-◌, List, [], ◌�
 use Rattle.px_base.specs.declared.limits.TheConstants.{NESTING}
 use Rattle.px_base.specs.declared.raw.RawProp.{RawProp}
 use Rattle.px_lexer.specs.declared.token.Mark.TheVariants.{BraceL, BraceR, ParenL, ParenR, Less, Greater, Comma, FatArrow}
+use Rattle.px_lexer.specs.declared.token.Key.TheVariants.{KMatch}
+use Rattle.px_lexer.specs.declared.token.TokenKind.TheVariants as kinds
 use Rattle.px_parser.specs.Words.{Word}
 use Rattle.px_parser.specs.Phrases.{IsDone, IsSequence, IsWord, IsNumber, list, between, optional}
 use Rattle.px_parser.specs.Grammar.{type, type_arguments, type_parameters, con, data_declaration, properties, with_properties, fn_type, param_kind, param, params, upper_expr, lower_expr, arm, match_expr, expr, definition, claim, equation, lemma, function, replica, item, program}
@@ -11,28 +13,28 @@ use Rattle.px_parser.specs.declared.surface.SType.{SType}
 use Rattle.px_parser.specs.declared.surface.SExpr.{SExpr}
 use Rattle.px_parser.specs.declared.surface.SExprKind.TheVariants as expr_kinds
 use Rattle.px_parser.specs.declared.surface.Surface.{Surface}
-use Rattle.px_scope.proofs.Sublists.{Sub, sub_refl}
+use Rattle.px_scope.proofs.Sublists.{Place, name_at, other_at, Sub, sub_refl}
 use Rattle.px_scope.proofs.Places.{name_places, prop_places, type_places, types_places, expr_places, exprs_places, args_places, arm_places, arms_places, fn_type_places, param_kind_places, param_places, params_places, con_places, cons_places, data_places, def_places, claim_places, equation_places, equations_places, lemma_places, fun_places, funs_places, replica_places, item_places, items_places, surface_places}
 use Rattle.px_scope.proofs.Places.{type_places-roll, expr_places-kind, arm_places-parts, kind_places-Number, kind_places-Upper, kind_places-Lower, kind_places-Match}
-use Rattle.px_scope.proofs.Placed.{Placed, word_places, placed_impossible, placed_word, placed_lower, placed_upper, placed_property, placed_done, placed_bind, placed_skip, placed_either, placed_optional, placed_each, placed_list, placed_between, placed_words}
+use Rattle.px_scope.proofs.Placed.{Placed, word_place, word_place_is, word_places, placed_impossible, placed_word, placed_lower, placed_upper, placed_property, placed_done, placed_bind, placed_mark, placed_key, placed_either, placed_optional, placed_each, placed_list, placed_between, placed_words}
 
 -- lists joined from the right are those joined from the left
-left_three : (a b c : List ℕ) → a ++ (b ++ c) ≡ (a ++ b) ++ c
+left_three : (a b c : List Place) → a ++ (b ++ c) ≡ (a ++ b) ++ c
 left_three a b c = sym (append_assoc a b c)
 
-left_four : (a b c d : List ℕ) → a ++ (b ++ (c ++ d)) ≡ ((a ++ b) ++ c) ++ d
+left_four : (a b c d : List Place) → a ++ (b ++ (c ++ d)) ≡ ((a ++ b) ++ c) ++ d
 left_four a b c d = left_three a b (c ++ d) ∙ left_three (a ++ b) c d
 
-left_five : (a b c d e : List ℕ) → a ++ (b ++ (c ++ (d ++ e))) ≡ (((a ++ b) ++ c) ++ d) ++ e
+left_five : (a b c d e : List Place) → a ++ (b ++ (c ++ (d ++ e))) ≡ (((a ++ b) ++ c) ++ d) ++ e
 left_five a b c d e = left_four a b c (d ++ e) ∙ left_three ((a ++ b) ++ c) d e
 
 -- a name's place
-abbrev name_place : Name → List ℕ
-name_place name = name.at ∷ []
+abbrev name_place : Name → List Place
+name_place name = name_at name.at ∷ []
 
--- the place itself
-abbrev own_place : ℕ → List ℕ
-own_place at = at ∷ []
+-- the place of a `match`
+abbrev match_place : ℕ → List Place
+match_place at = other_at at ∷ []
 
 placed_arguments : (room : ℕ) → Placed [] type_places (type room) → Placed [] types_places (type_arguments room)
 placed_arguments room inner = placed_optional refl (placed_between Less Greater (placed_list {places = type_places} Comma inner))
@@ -46,7 +48,7 @@ placed_type (suc room) =
     placed_done (type_places-roll name args)))
 
 placed_type_parameters : Placed [] name_places type_parameters
-placed_type_parameters = placed_optional refl (placed_between Less Greater (placed_words Comma (λ (name : Name). name.at) placed_upper))
+placed_type_parameters = placed_optional refl (placed_between Less Greater (placed_words Comma (λ (name : Name). name_at name.at) placed_upper))
 
 placed_con : Placed [] con_places con
 unfolding con
@@ -58,22 +60,22 @@ placed_con =
 placed_data : Placed [] data_places data_declaration
 unfolding data_declaration
 placed_data =
-    placed_skip (λ at. placed_bind {first = name_place} placed_upper (λ name. placed_bind {first = name_places} placed_type_parameters (λ tparams.
+    placed_key (λ at. placed_bind {first = name_place} placed_upper (λ name. placed_bind {first = name_places} placed_type_parameters (λ tparams.
     placed_bind {first = cons_places} (placed_between BraceL BraceR (placed_list {places = con_places} Comma placed_con)) (λ cons. placed_done refl))))
 
 placed_properties : Placed [] prop_places properties
-placed_properties = placed_words Comma (λ (prop : RawProp). prop.at) placed_property
+placed_properties = placed_words Comma (λ (prop : RawProp). name_at prop.at) placed_property
 
 placed_with : Placed [] prop_places with_properties
 unfolding with_properties
-placed_with = placed_optional refl (placed_skip (λ at. placed_properties))
+placed_with = placed_optional refl (placed_key (λ at. placed_properties))
 
 placed_fn_type : Placed [] fn_type_places fn_type
 unfolding fn_type
 placed_fn_type =
-    placed_skip (λ at.
+    placed_key (λ at.
     placed_bind {first = types_places} (placed_between ParenL ParenR (placed_list {places = type_places} Comma (placed_type (NESTING - 1)))) (λ params.
-    placed_skip (λ arrow. placed_bind {first = type_places} (placed_type (NESTING - 1)) (λ result. placed_bind {first = prop_places} placed_with (λ props.
+    placed_mark (λ arrow. placed_bind {first = type_places} (placed_type (NESTING - 1)) (λ result. placed_bind {first = prop_places} placed_with (λ props.
     placed_done (left_three (types_places params) (type_places result) (prop_places props)))))))
 
 placed_param_kind : Placed [] param_kind_places param_kind
@@ -85,7 +87,7 @@ placed_param_kind =
 placed_param : Placed [] param_places param
 unfolding param
 placed_param =
-    placed_bind {first = name_place} placed_lower (λ name. placed_skip (λ colon.
+    placed_bind {first = name_place} placed_lower (λ name. placed_mark (λ colon.
     placed_bind {first = param_kind_places} placed_param_kind (λ kind. placed_done refl)))
 
 placed_params : Placed [] params_places params
@@ -120,23 +122,26 @@ placed_arm : {inner : List Word → SExpr → Type 0} → Placed [] expr_places 
 unfolding arm
 placed_arm inner =
     placed_bind {first = name_place} placed_upper (λ name.
-    placed_bind {first = name_places} (placed_optional refl (placed_between ParenL ParenR (placed_words Comma (λ (v : Name). v.at) placed_lower))) (λ vars.
-    placed_skip (λ arrow. placed_bind {first = expr_places} inner (λ body.
+    placed_bind {first = name_places} (placed_optional refl (placed_between ParenL ParenR (placed_words Comma (λ (v : Name). name_at v.at) placed_lower))) (λ vars.
+    placed_mark (λ arrow. placed_bind {first = expr_places} inner (λ body.
     placed_done (arm_places-parts (record { name = name; vars = vars; body = body }))))))
 
 placed_match : {inner : List Word → SExpr → Type 0} → Placed [] expr_places inner → Placed [] expr_places (match_expr inner)
 unfolding match_expr
 placed_match inner =
-    placed_bind {first = own_place} (placed_word (λ (at : ℕ). at) (λ word value is. is.same)) (λ at.
+    placed_bind {first = match_place} (placed_word other_at (λ word value is. ap other_at is.same ∙ sym (word_place_is word (kinds.Key KMatch) is.kind))) (λ at.
     placed_bind {first = expr_places} inner (λ on.
     placed_bind {first = arms_places} (placed_between BraceL BraceR (placed_list {places = arm_places} Comma (placed_arm inner))) (λ arms.
     placed_done
     (expr_places-kind (record { at = at; kind = expr_kinds.Match on arms }) ∙ kind_places-Match at on arms))))
 
 -- a number stands where its word does
-number_place : (word : Word) (literal : SExpr) → IsNumber word literal → expr_places literal ≡ word.at ∷ []
+number_place : (word : Word) (literal : SExpr) → IsNumber word literal → expr_places literal ≡ word_place word ∷ []
 number_place word literal is =
-    ap expr_places is.same ∙ expr_places-kind (record { at = word.at; kind = expr_kinds.Number word.number }) ∙ kind_places-Number word.at word.number
+    ap expr_places is.same
+    ∙ expr_places-kind (record { at = word.at; kind = expr_kinds.Number word.number })
+    ∙ kind_places-Number word.at word.number
+    ∙ ap (λ (place : Place). place ∷ []) (sym (word_place_is word kinds.Number is.kind))
 
 placed_number : Placed [] expr_places (IsWord IsNumber)
 placed_number = record {
@@ -156,31 +161,31 @@ placed_expr (suc room) =
 placed_definition : Placed [] def_places definition
 unfolding definition
 placed_definition =
-    placed_skip (λ at. placed_bind {first = name_place} placed_lower (λ name. placed_bind {first = name_places} placed_type_parameters (λ tparams.
-    placed_bind {first = params_places} placed_params (λ params. placed_skip (λ colon. placed_bind {first = type_places} (placed_type NESTING) (λ result.
+    placed_key (λ at. placed_bind {first = name_place} placed_lower (λ name. placed_bind {first = name_places} placed_type_parameters (λ tparams.
+    placed_bind {first = params_places} placed_params (λ params. placed_mark (λ colon. placed_bind {first = type_places} (placed_type NESTING) (λ result.
     placed_bind {first = prop_places} placed_with (λ props.
     placed_bind {first = expr_places} (placed_between BraceL BraceR (placed_expr NESTING)) (λ body.
-    placed_done (ap (λ (rest : List ℕ). name.at ∷ rest) (left_five (name_places tparams) (params_places params) (type_places result) (prop_places props) (expr_places body)))))))))))
+    placed_done (ap (λ (rest : List Place). name_at name.at ∷ rest) (left_five (name_places tparams) (params_places params) (type_places result) (prop_places props) (expr_places body)))))))))))
 
 placed_claim : Placed [] claim_places claim
 unfolding claim
 placed_claim =
-    placed_skip (λ at. placed_bind {first = name_place} placed_lower (λ name. placed_skip (λ colon.
+    placed_key (λ at. placed_bind {first = name_place} placed_lower (λ name. placed_mark (λ colon.
     placed_bind {first = prop_places} placed_properties (λ props. placed_done refl))))
 
 placed_equation : Placed [] equation_places equation
 unfolding equation
 placed_equation =
-    placed_bind {first = expr_places} (placed_expr NESTING) (λ left. placed_skip (λ equal.
+    placed_bind {first = expr_places} (placed_expr NESTING) (λ left. placed_mark (λ equal.
     placed_bind {first = expr_places} (placed_expr NESTING) (λ right. placed_done refl)))
 
 placed_lemma : Placed [] lemma_places lemma
 unfolding lemma
 placed_lemma =
-    placed_skip (λ at. placed_bind {first = name_place} placed_lower (λ name. placed_bind {first = name_places} placed_type_parameters (λ tparams.
-    placed_bind {first = params_places} placed_params (λ params. placed_skip (λ colon.
+    placed_key (λ at. placed_bind {first = name_place} placed_lower (λ name. placed_bind {first = name_places} placed_type_parameters (λ tparams.
+    placed_bind {first = params_places} placed_params (λ params. placed_mark (λ colon.
     placed_bind {first = equations_places} (placed_list {places = equation_places} FatArrow placed_equation) (λ equations.
-    placed_done (ap (λ (rest : List ℕ). name.at ∷ rest) (left_three (name_places tparams) (params_places params) (equations_places equations)))))))))
+    placed_done (ap (λ (rest : List Place). name_at name.at ∷ rest) (left_three (name_places tparams) (params_places params) (equations_places equations)))))))))
 
 placed_function : Placed [] fun_places function
 unfolding function
@@ -191,12 +196,12 @@ placed_function =
 placed_replica : Placed [] replica_places replica
 unfolding replica
 placed_replica =
-    placed_skip (λ at. placed_bind {first = name_place} placed_lower (λ name. placed_skip (λ colon.
-    placed_bind {first = type_places} (placed_type NESTING) (λ state. placed_skip (λ key_from.
-    placed_bind {first = expr_places} (placed_expr NESTING) (λ from. placed_skip (λ key_by.
+    placed_key (λ at. placed_bind {first = name_place} placed_lower (λ name. placed_mark (λ colon.
+    placed_bind {first = type_places} (placed_type NESTING) (λ state. placed_key (λ key_from.
+    placed_bind {first = expr_places} (placed_expr NESTING) (λ from. placed_key (λ key_by.
     placed_bind {first = fun_places} placed_function (λ merge.
     placed_bind {first = funs_places} (placed_optional refl (placed_between ParenL ParenR (placed_list {places = fun_places} Comma placed_function))) (λ funs.
-    placed_done (ap (λ (rest : List ℕ). name.at ∷ rest) (left_four (type_places state) (expr_places from) (fun_places merge) (funs_places funs))))))))))))
+    placed_done (ap (λ (rest : List Place). name_at name.at ∷ rest) (left_four (type_places state) (expr_places from) (fun_places merge) (funs_places funs))))))))))))
 
 placed_item : Placed [] item_places item
 unfolding item
@@ -211,5 +216,5 @@ placed_surface : Placed [] surface_places program
 unfolding program
 placed_surface = placed_bind {first = items_places} (placed_each {places = item_places} placed_item) (λ items. placed_done refl)
 
-pub placed_program : (words : List Word) (surface : Surface) → program words surface → Sub (surface_places surface) (map (λ (w : Word). w.at) words)
+pub placed_program : (words : List Word) (surface : Surface) → program words surface → Sub (surface_places surface) (map word_place words)
 placed_program words surface is = placed_surface.placed words surface is

@@ -1,5 +1,5 @@
 -- The names that are looked at in a text's declarations stand at places of these, in their order.
-use Rattle.std.proofs.Common.{ℕ, false, List, [], ◌∷◌, ◌++◌, map, length, refl, append_assoc}
+use Rattle.std.proofs.Common.{false, List, [], ◌∷◌, ◌++◌, length, refl, append_assoc}
 use Rattle.px_base.specs.declared.prop.Prop.{Prop}
 use Rattle.px_base.specs.declared.raw.RawProp.{RawProp}
 use Rattle.px_parser.specs.declared.surface.Name.{Name}
@@ -25,8 +25,8 @@ use Rattle.px_scope.specs.Standing.{meaning_of, no_parameters, nothing_local, bu
 use Rattle.px_scope.specs.Rules.{new_type_fault, new_parameter_fault, new_constructor_fault, new_lower_fault, new_value_fault, new_function_fault, claim_fault, merge_fault, property_fault, function_fault}
 use Rattle.px_scope.specs.Uses.{Use, use_of, Data, From, properties_uses, function_uses}
 use Rattle.px_scope.specs.Declaring.{with_datatype, with_constructor_name, with_lower, with_definition, after, with_type_parameter, with_parameter, type_locals, data_locals, first_locals, parameter_locals, body_locals}
-use Rattle.px_scope.specs.ItemUses.{type_parameters_uses, constructor_uses, constructors_uses, data_uses, fn_type_uses, parameter_uses_of, parameters_uses, head_uses, definition_uses, claimed_by, claim_uses, equation_uses, lemma_uses, merge_uses, replica_uses, item_uses, text_uses}
-use Rattle.px_scope.proofs.Sublists.{Sub}
+use Rattle.px_scope.specs.ItemUses.{type_parameters_uses, constructor_uses, constructors_uses, data_uses, fn_type_uses, parameter_uses_of, parameters_uses, heading_uses, definition_uses, claimed_by, claim_uses, equation_uses, lemma_uses, merge_uses, replica_uses, item_uses, text_uses}
+use Rattle.px_scope.proofs.Sublists.{Place, name_at}
 use Rattle.px_scope.proofs.Places.{name_places, prop_places, fn_type_places, param_kind_places, param_places, params_places, con_places, cons_places, data_places, def_places, claim_places, equation_places, lemma_places, fun_places, replica_places, item_places, items_places}
 use Rattle.px_scope.proofs.ExpressionsPlaced.{Placed, placed_none, placed_first, placed_both, placed_as, flat_placed, along_placed, names_placed, type_placed, types_placed, expr_placed}
 
@@ -36,7 +36,7 @@ type_parameters_placed G T tparams = names_placed with_type_parameter (λ (U : T
 
 -- properties
 properties_placed : (claimed : List Prop) (props : List RawProp) → Placed (properties_uses claimed props) (prop_places props)
-properties_placed claimed [] = placed_none []
+properties_placed claimed [] = placed_none
 properties_placed claimed (p ∷ props) = placed_first (record { at = p.at; fault = property_fault claimed p.prop }) (properties_placed (claimed ++ p.prop ∷ []) props)
 
 module _ (text : List Item) where
@@ -63,7 +63,7 @@ module _ (text : List Item) where
 
   -- the names in a parameter
   parameter_placed : (G : Globals) (L : Locals) (name : Name) (kind : SParamKind) →
-      Placed (parameter_uses_of text G L name kind) (name.at ∷ param_kind_places kind)
+      Placed (parameter_uses_of text G L name kind) (name_at name.at ∷ param_kind_places kind)
   parameter_placed G L name (param_kinds.Function f) = placed_first (use_of name (new_function_fault L name.text)) (fn_type_placed G L.types f)
   parameter_placed G L name (param_kinds.Value s) = placed_first (use_of name (new_value_fault L name.text)) (type_placed text G L.types s)
 
@@ -74,9 +74,9 @@ module _ (text : List Item) where
       (λ (M : Locals) (p : SParam). parameter_placed G M p.name p.kind) L params
 
   -- the names in type parameters and parameters, and those after them
-  head_placed : (G : Globals) (tparams : List Name) (params : List SParam) {us : List Use} {places : List ℕ} → Placed us places →
-      Placed (head_uses text G tparams params ++ us) (name_places tparams ++ (params_places params ++ places))
-  head_placed G tparams params {us = us} later =
+  heading_placed : (G : Globals) (tparams : List Name) (params : List SParam) {us : List Use} {places : List Place} → Placed us places →
+      Placed (heading_uses text G tparams params ++ us) (name_places tparams ++ (params_places params ++ places))
+  heading_placed G tparams params {us = us} later =
       placed_as (append_assoc (type_parameters_uses G no_parameters tparams) (parameters_uses text G (first_locals tparams) params) us) refl
       (placed_both (type_parameters_placed G no_parameters tparams) (placed_both (parameters_placed G (first_locals tparams) params) later))
 
@@ -84,7 +84,7 @@ module _ (text : List Item) where
   definition_placed : (G : Globals) (d : SDef) → Placed (definition_uses text G d) (def_places d)
   definition_placed G d =
       placed_first (use_of d.name (new_lower_fault G d.name.text))
-      (head_placed G d.tparams d.params
+      (heading_placed G d.tparams d.params
       (placed_both (type_placed text G (type_locals d.tparams) d.result)
       (placed_both (properties_placed [] d.props)
       (expr_placed text (with_definition G d) d.body Data (body_locals (length G.claimed) d)))))
@@ -104,7 +104,7 @@ module _ (text : List Item) where
       let H = with_lower G l.name meaning.Lemma in
       let L = parameter_locals l.tparams l.params in
       placed_first (use_of l.name (new_lower_fault G l.name.text))
-      (head_placed G l.tparams l.params (flat_placed (equation_uses text H L) equation_places (equation_placed H L) l.equations))
+      (heading_placed G l.tparams l.params (flat_placed (equation_uses text H L) equation_places (equation_placed H L) l.equations))
 
   -- the names in the function that merges
   merge_placed : (G : Globals) (f : SFun) → Placed (merge_uses text G f) (fun_places f)
@@ -133,7 +133,5 @@ module _ (text : List Item) where
   item_placed G (items.Replica r) = replica_placed G r
 
 -- the names of a text stand at its places, in their order
-pub uses_placed : (text : List Item) → Sub (map (λ (u : Use). u.at) (text_uses text)) (items_places text)
-uses_placed text =
-    let placed = along_placed after (item_uses text) item_places (item_placed text) built_in text in
-    placed.are
+pub uses_placed : (text : List Item) → Placed (text_uses text) (items_places text)
+uses_placed text = along_placed after (item_uses text) item_places (item_placed text) built_in text

@@ -13,7 +13,7 @@ use Rattle.px_scope.specs.declared.lookups.Variable.{Variable}
 use Rattle.px_scope.specs.declared.lookups.Variable.TheVariants.{Value, Pattern}
 use Rattle.px_scope.specs.declared.lookups.Called.{Called}
 use Rattle.px_scope.specs.declared.parameters.Parameters.{Parameters}
-use Rattle.px_scope.specs.declared.declarations.Head.{Head}
+use Rattle.px_scope.specs.declared.declarations.Heading.{Heading}
 use Rattle.px_scope.specs.declared.locals.TypeLocals.{TypeLocals}
 use Rattle.px_parser.specs.declared.surface.Name.{Name}
 use Rattle.px_parser.specs.declared.surface.SParam.{SParam}
@@ -70,6 +70,6 @@ abbrev pub AreBoth : Globals → TypeLocals → List SParam → Parameters → T
 AreBoth G T params both = AreParameters G T params both.funs both.values
 
 -- What is local after type parameters and parameters, and the types of these.
-pub record IsHead (G : Globals) (tparams : List Name) (params : List SParam) (head : Head) : Type 0 where
-  pub locals : head.locals ≡ parameter_locals tparams params
-  pub are_both : AreBoth G (type_locals tparams) params head.params
+pub record IsHeading (G : Globals) (tparams : List Name) (params : List SParam) (heading : Heading) : Type 0 where
+  pub locals : heading.locals ≡ parameter_locals tparams params
+  pub are_both : AreBoth G (type_locals tparams) params heading.params

@@ -57,12 +57,12 @@ abbrev pub parameters_uses : List Item → Globals → Locals → List SParam �
 parameters_uses text G L params = along with_parameter (λ (M : Locals) (p : SParam). parameter_uses_of text G M p.name p.kind) L params
 
 -- the names in type parameters and parameters
-abbrev pub head_uses : List Item → Globals → List Name → List SParam → List Use
-head_uses text G tparams params = type_parameters_uses G no_parameters tparams ++ parameters_uses text G (first_locals tparams) params
+abbrev pub heading_uses : List Item → Globals → List Name → List SParam → List Use
+heading_uses text G tparams params = type_parameters_uses G no_parameters tparams ++ parameters_uses text G (first_locals tparams) params
 
 -- the names in a definition, which may call itself in its body
 abbrev pub definition_uses : List Item → Globals → SDef → List Use
-definition_uses text G d = use_of d.name (new_lower_fault G d.name.text) ∷ (head_uses text G d.tparams d.params ++ (type_uses text G (type_locals d.tparams) d.result ++ (properties_uses [] d.props ++ expr_uses text (with_definition G d) d.body Data (body_locals (length G.claimed) d))))
+definition_uses text G d = use_of d.name (new_lower_fault G d.name.text) ∷ (heading_uses text G d.tparams d.params ++ (type_uses text G (type_locals d.tparams) d.result ++ (properties_uses [] d.props ++ expr_uses text (with_definition G d) d.body Data (body_locals (length G.claimed) d))))
 
 -- the properties that are claimed of what a name stands for
 abbrev pub claimed_by : Globals → Option Meaning → List Prop
@@ -79,7 +79,7 @@ equation_uses text G L e = expr_uses text G e.left Data L ++ expr_uses text G e.
 
 -- the names in a lemma
 abbrev pub lemma_uses : List Item → Globals → SLemma → List Use
-lemma_uses text G l = use_of l.name (new_lower_fault G l.name.text) ∷ (head_uses text G l.tparams l.params ++ flat_map (equation_uses text (with_lower G l.name meaning.Lemma) (parameter_locals l.tparams l.params)) l.equations)
+lemma_uses text G l = use_of l.name (new_lower_fault G l.name.text) ∷ (heading_uses text G l.tparams l.params ++ flat_map (equation_uses text (with_lower G l.name meaning.Lemma) (parameter_locals l.tparams l.params)) l.equations)
 
 -- the names in the function that merges
 abbrev pub merge_uses : List Item → Globals → SFun → List Use

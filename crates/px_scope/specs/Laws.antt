@@ -1,12 +1,13 @@
 -- What the definitions say of every surface.
-use Rattle.std.specs.Prelude.{◌≡◌, ℕ, ◌<◌, ◌≤◌, List, Some, Contains, AllPairs}
+use Rattle.std.specs.Prelude.{◌≡◌, ℕ, ◌<◌, ◌≤◌, ◌||◌, IsTrue, List, Option, Some, None, Contains, AllPairs}
 use Rattle.px_base.specs.declared.raw.RawProgram.{RawProgram}
 use Rattle.px_lexer.specs.declared.token.Token.{Token}
 use Rattle.px_lexer.specs.Tokens.{AreTokens}
 use Rattle.px_parser.specs.declared.surface.Surface.{Surface}
+use Rattle.px_parser.specs.Kinds.{is_name, is_property}
 use Rattle.px_parser.specs.Faults.{IsProgramOf}
 use Rattle.px_scope.specs.declared.ends.ScopeKind.{ScopeKind}
-use Rattle.px_scope.specs.Uses.{Use, Broken}
+use Rattle.px_scope.specs.Uses.{Use, Broken, first_broken}
 use Rattle.px_scope.specs.ItemUses.{text_uses}
 use Rattle.px_scope.specs.Programs.{IsNumbering, IsFault}
 
@@ -29,3 +30,17 @@ NamesRise = (text : List ℕ) (tokens : List Token) (surface : Surface) → AreT
 -- the fault of a text's program is at the first byte at which a name breaks a rule
 abbrev pub FaultIsFirst : Type 0
 FaultIsFirst = (text : List ℕ) (tokens : List Token) (surface : Surface) (fault : Broken) → AreTokens text tokens → IsProgramOf text tokens surface → IsFault surface fault → (u : Use) (kind : ScopeKind) → Contains (text_uses surface.items) u → u.fault ≡ Some kind → fault.at ≤ u.at
+
+-- the place is not behind the fault, where there is one
+abbrev pub IsUpTo : ℕ → Option Broken → Type 0
+IsUpTo at None = Unit {0}
+IsUpTo at (Some fault) = at ≤ fault.at
+
+-- a name at this place is one of these
+abbrev pub IsListed : ℕ → List Use → Type 0
+IsListed at us = (u : Use) × Contains us u × (u.at ≡ at)
+
+-- each name and each property's word of a text's program is looked at, up to the first fault, or all of them where there is none
+abbrev pub EachNameIsListed : Type 0
+EachNameIsListed = (text : List ℕ) (tokens : List Token) (surface : Surface) → AreTokens text tokens → IsProgramOf text tokens surface →
+    (t : Token) → Contains tokens t → IsTrue (is_name t.kind || is_property t.kind) → IsUpTo t.start (first_broken (text_uses surface.items)) → IsListed t.start (text_uses surface.items)

@@ -7,8 +7,6 @@ pub mod Numbers
 pub mod Declaring
 pub mod ItemUses
 pub mod Programs
-pub mod Fitting
 pub mod Answers
 pub mod Laws
 pub mod Small
-pub mod Lawful

@@ -13,6 +13,7 @@ use Rattle.px_base.specs.declared.raw.RawEquation.{RawEquation}
 use Rattle.px_base.specs.declared.raw.RawLemma.{RawLemma}
 use Rattle.px_base.specs.declared.raw.RawReplica.{RawReplica}
 use Rattle.px_base.specs.declared.raw.RawProgram.{RawProgram}
+use Rattle.px_base.specs.Fitting.{raw_bool}
 use Rattle.px_parser.specs.declared.surface.SType.{SType}
 use Rattle.px_parser.specs.declared.surface.SCon.{SCon}
 use Rattle.px_parser.specs.declared.surface.SData.{SData}
@@ -146,10 +147,6 @@ pub data IsNext (G : Globals) (P : RawProgram) : Item → RawProgram → Type 0 
 pub data AreNext : Globals → RawProgram → List Item → RawProgram → Type 0 where
   none : {G : Globals} {P : RawProgram} → AreNext G P [] P
   more : {G : Globals} {P Q R : RawProgram} {item : Item} {text : List Item} → IsNext G P item Q → AreNext (after G item) Q text R → AreNext G P (item ∷ text) R
-
--- the declaration of `Bool`, as a written one
-abbrev pub raw_bool : RawData
-raw_bool = record { at = 0; tparams = 0; cons = record { at = 0; fields = [] } ∷ record { at = 0; fields = [] } ∷ [] }
 
 -- the program of no declarations: `Bool` alone
 abbrev pub start : RawProgram

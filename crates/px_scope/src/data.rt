@@ -12,12 +12,12 @@ use crate::locals::TypeLocals;
 use crate::lookups::fault;
 use crate::parameters::add_type_parameters;
 use crate::types::resolve_types;
-use px_parser::{Item, SCon, SData};
 use px_base::{RawCon, RawData};
+use px_parser::{Item, SCon, SData};
 use sqlite_items::Items;
 use std::alloc::Global;
 
-/// The written datatype that one is, which is declared then, with its constructors. It takes memory.
+/// The written datatype that one is, which is declared then, with its constructors.
 pub(crate) fn resolve_data(
     alloc: Global,
     text: &[Item],
@@ -54,7 +54,7 @@ pub(crate) fn resolve_data(
     })
 }
 
-/// The written constructors that those of a datatype are, which are declared then. It takes memory.
+/// The written constructors that those of a datatype are, which are declared then.
 fn resolve_constructors(
     alloc: Global,
     text: &[Item],

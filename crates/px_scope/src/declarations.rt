@@ -3,10 +3,10 @@ ghost use Rattle.std.specs.Prelude.{◌≡◌, ◌<◌, ◌≤◌, ◌^◌, None
 ghost use Rattle.std.specs.List.{flat_map};
 ghost use Rattle.px_parser.specs.declared.surface.Item.TheVariants as items;
 ghost use Rattle.px_scope.specs.Declaring.{after, with_lower, functions_in, function_count, claimed_of as claimed_props};
-ghost use Rattle.px_scope.specs.ItemUses.{head_uses, equation_uses, definition_uses, claim_uses, lemma_uses, replica_uses};
+ghost use Rattle.px_scope.specs.ItemUses.{heading_uses, equation_uses, definition_uses, claim_uses, lemma_uses, replica_uses};
 ghost use Rattle.px_scope.specs.Programs.{IsEquation, AreEquations, IsDefinition, IsClaim, IsLemma, IsReplica};
 ghost use Rattle.px_scope.specs.Rules.{new_lower_fault};
-ghost use Rattle.px_scope.specs.Answers.{Resolves, Finds, IsHead};
+ghost use Rattle.px_scope.specs.Answers.{Resolves, Finds, IsHeading};
 
 use crate::ends::{ScopeEnd, ScopeKind};
 use crate::expressions::{resolve_from, resolve_term};
@@ -17,19 +17,19 @@ use crate::lookups::{fault, find_claimed};
 use crate::parameters::{Parameters, add_type_parameters, resolve_parameters};
 use crate::properties::{claim, copy_claimed, copy_props};
 use crate::types::resolve_type;
-use px_parser::{Item, Name, SClaim, SDef, SEquation, SLemma, SParam, SParamKind, SReplica};
 use px_base::{Prop, RawClaim, RawDef, RawEquation, RawLemma, RawReplica};
+use px_parser::{Item, Name, SClaim, SDef, SEquation, SLemma, SParam, SParamKind, SReplica};
 use sqlite_items::{Items, at};
 use std::alloc::Global;
 
 /// What is local after the parameters of a definition or a lemma, and their types.
 #[derive(Drop)]
-pub(crate) struct Head {
+pub(crate) struct Heading {
     pub(crate) locals: Locals,
     pub(crate) params: Parameters,
 }
 
-/// The written definition that one is, which is declared then. It takes memory.
+/// The written definition that one is, which is declared then.
 pub(crate) fn resolve_definition(
     alloc: Global,
     text: &[Item],
@@ -41,7 +41,7 @@ pub(crate) fn resolve_definition(
     ensures { Resolves (definition_uses text.now globals.old definition.now) (λ raw. IsDefinition globals.old definition.now raw × (globals.new ≡ after globals.old (items.Definition definition.now))) result }
 {
     check_new(globals, &definition.name)?;
-    let Head { mut locals, params } = resolve_head(
+    let Heading { mut locals, params } = resolve_heading(
         alloc,
         text,
         globals,
@@ -73,7 +73,7 @@ pub(crate) fn resolve_definition(
     })
 }
 
-/// The name is that of no definition, lemma, replica or built-in. It takes no memory.
+/// The name is that of no definition, lemma, replica or built-in.
 fn check_new(globals: &Globals, name: &Name) -> Result<(), ScopeEnd>
     ensures { Finds name.now.at (new_lower_fault globals.now name.now.text) (λ _. Unit {0}) result }
 {
@@ -83,7 +83,7 @@ fn check_new(globals: &Globals, name: &Name) -> Result<(), ScopeEnd>
     Ok(())
 }
 
-/// Declares a name with a small letter, which is a new one. It takes memory.
+/// Declares a name with a small letter, which is a new one.
 fn declare(
     alloc: Global,
     globals: &mut Globals,
@@ -99,23 +99,23 @@ fn declare(
     Ok(())
 }
 
-/// What is local after these type parameters and parameters, and the types of these. It takes memory.
-fn resolve_head(
+/// What is local after these type parameters and parameters, and the types of these.
+fn resolve_heading(
     alloc: Global,
     text: &[Item],
     globals: &Globals,
     tparams: &[Name],
     params: &[SParam],
-) -> Result<Head, ScopeEnd>
-    ensures { Resolves (head_uses text.now globals.now tparams.now params.now) (IsHead globals.now tparams.now params.now) result }
+) -> Result<Heading, ScopeEnd>
+    ensures { Resolves (heading_uses text.now globals.now tparams.now params.now) (IsHeading globals.now tparams.now params.now) result }
 {
     let mut locals = Locals::new(alloc);
     add_type_parameters(alloc, globals, &mut locals.types, tparams)?;
     let params = resolve_parameters(alloc, text, globals, &mut locals, params)?;
-    Ok(Head { locals, params })
+    Ok(Heading { locals, params })
 }
 
-/// How many parameters are functions. It takes no memory.
+/// How many parameters are functions.
 fn count_functions(params: &[SParam]) -> usize
     ensures { result ≡ function_count params.now }
 {
@@ -126,7 +126,7 @@ fn count_functions(params: &[SParam]) -> usize
     count
 }
 
-/// 1 for a function, and 0 for a value. It takes no memory.
+/// 1 for a function, and 0 for a value.
 fn functions_of(kind: &SParamKind) -> usize
     ensures is { result ≡ functions_in kind.now }
     ensures most { result ≤ 1 }
@@ -137,7 +137,7 @@ fn functions_of(kind: &SParamKind) -> usize
     }
 }
 
-/// The written claim that one is; its properties are claimed then. It takes memory.
+/// The written claim that one is; its properties are claimed then.
 pub(crate) fn resolve_claim(
     alloc: Global,
     text: &[Item],
@@ -159,7 +159,7 @@ pub(crate) fn resolve_claim(
     })
 }
 
-/// A copy of the properties that are claimed of a definition. It takes memory.
+/// A copy of the properties that are claimed of a definition.
 fn claimed_of(alloc: Global, globals: &Globals, def: u32) -> Result<Items<Prop>, ScopeEnd>
     ensures is { IfOk result (λ claimed. claimed ≡ claimed_props globals.now def) }
     ensures memory { IfErr result (λ end. end ≡ ScopeEnd.NoMemory) }
@@ -170,7 +170,7 @@ fn claimed_of(alloc: Global, globals: &Globals, def: u32) -> Result<Items<Prop>,
     }
 }
 
-/// The written lemma that one is, which is declared then. It takes memory.
+/// The written lemma that one is, which is declared then.
 pub(crate) fn resolve_lemma(
     alloc: Global,
     text: &[Item],
@@ -182,7 +182,7 @@ pub(crate) fn resolve_lemma(
     ensures { Resolves (lemma_uses text.now globals.old lemma.now) (λ raw. IsLemma globals.old lemma.now raw × (globals.new ≡ after globals.old (items.Lemma lemma.now))) result }
 {
     check_new(globals, &lemma.name)?;
-    let Head { mut locals, params } = resolve_head(
+    let Heading { mut locals, params } = resolve_heading(
         alloc,
         text,
         globals,
@@ -204,7 +204,7 @@ pub(crate) fn resolve_lemma(
     })
 }
 
-/// The written equations that equations are. It takes memory.
+/// The written equations that equations are.
 fn resolve_equations(
     alloc: Global,
     text: &[Item],
@@ -222,7 +222,7 @@ fn resolve_equations(
     Ok(resolved)
 }
 
-/// The written equation that one is. It takes memory.
+/// The written equation that one is.
 fn resolve_equation(
     alloc: Global,
     text: &[Item],
@@ -238,7 +238,7 @@ fn resolve_equation(
     Ok(RawEquation { left, right })
 }
 
-/// The written replica that one is, which is declared then. It takes memory.
+/// The written replica that one is, which is declared then.
 pub(crate) fn resolve_replica(
     alloc: Global,
     text: &[Item],

@@ -16,13 +16,13 @@ use crate::lookups::{
     Variable, fault, find_called, find_constructor, find_variable, lower_in_from,
 };
 use crate::types::resolve_types;
-use px_parser::{Item, Name, SArm, SExpr, SExprKind};
 use px_base::{RawArm, RawFun, RawKind, RawTerm};
+use px_parser::{Item, Name, SArm, SExpr, SExprKind};
 use sqlite_items::{Boxed, Items};
 use std::alloc::Global;
 
-/// The written term that an expression is where data is wanted. It takes memory; its calls nest as deep as the
-/// expression. What is local is as it was, unless there is a fault.
+/// The written term that an expression is where data is wanted. Its calls nest as deep as the expression. What is local
+/// is as it was, unless there is a fault.
 #[cycle(terms)]
 pub(crate) fn resolve_term(
     alloc: Global,
@@ -114,7 +114,7 @@ pub(crate) fn resolve_term(
     }
 }
 
-/// The written terms that the expressions after the first so many are. It takes memory.
+/// The written terms that the expressions after the first so many are.
 #[cycle(terms)]
 fn resolve_terms(
     alloc: Global,
@@ -134,7 +134,7 @@ fn resolve_terms(
     Ok(terms)
 }
 
-/// The written arms that arms are. It takes memory.
+/// The written arms that arms are.
 #[cycle(terms)]
 fn resolve_arms(
     alloc: Global,
@@ -153,7 +153,7 @@ fn resolve_arms(
     Ok(resolved)
 }
 
-/// The written arm that an arm is. It takes memory.
+/// The written arm that an arm is.
 #[cycle(terms)]
 fn resolve_arm(
     alloc: Global,
@@ -179,7 +179,7 @@ fn resolve_arm(
     })
 }
 
-/// Makes a pattern's variables local, and answers their places. It takes memory.
+/// Makes a pattern's variables local, and answers their places.
 fn bind_variables(alloc: Global, locals: &mut Locals, vars: &[Name]) -> Result<Items<u32>, ScopeEnd>
     ensures resolves { Resolves (variables_uses locals.old vars.now) (λ places. places ≡ map (λ (v : AnyName). v.at) vars.now) result }
     ensures locals { OnOk result (locals.new ≡ bind locals.old vars.now) }
@@ -194,7 +194,7 @@ fn bind_variables(alloc: Global, locals: &mut Locals, vars: &[Name]) -> Result<I
     Ok(places)
 }
 
-/// The written term that a part of a replica's first value is. It takes memory; its calls nest as deep as the part.
+/// The written term that a part of a replica's first value is. Its calls nest as deep as the part.
 #[cycle(parts)]
 pub(crate) fn resolve_from(
     alloc: Global,
@@ -233,7 +233,7 @@ pub(crate) fn resolve_from(
     }
 }
 
-/// The written terms that parts of a replica's first value are. It takes memory.
+/// The written terms that parts of a replica's first value are.
 #[cycle(parts)]
 fn resolve_parts(
     alloc: Global,

@@ -14,12 +14,12 @@ use crate::globals::Globals;
 use crate::locals::Locals;
 use crate::lookups::{constructor_as_function, fault, find_function, find_merge};
 use crate::types::resolve_types;
-use px_parser::{Item, SExpr, SExprKind, SFun};
 use px_base::RawFun;
+use px_parser::{Item, SExpr, SExprKind, SFun};
 use sqlite_items::Items;
 use std::alloc::Global;
 
-/// The functions that the first expressions are, so many or all where there are fewer. It takes memory.
+/// The functions that the first expressions are, so many or all where there are fewer.
 pub(crate) fn resolve_arguments(
     alloc: Global,
     text: &[Item],
@@ -37,7 +37,7 @@ pub(crate) fn resolve_arguments(
     Ok(functions)
 }
 
-/// The function that an expression in an argument's place is. It takes memory.
+/// The function that an expression in an argument's place is.
 fn resolve_argument(
     alloc: Global,
     text: &[Item],
@@ -63,7 +63,7 @@ fn resolve_argument(
     }
 }
 
-/// The functions that a merge is on. It takes memory.
+/// The functions that a merge is on.
 pub(crate) fn resolve_functions(
     alloc: Global,
     text: &[Item],
@@ -80,7 +80,7 @@ pub(crate) fn resolve_functions(
     Ok(functions)
 }
 
-/// The function of this name. It takes memory.
+/// The function of this name.
 fn resolve_function(
     alloc: Global,
     text: &[Item],
@@ -99,7 +99,7 @@ fn resolve_function(
     })
 }
 
-/// The function that merges. It takes memory.
+/// The function that merges.
 pub(crate) fn resolve_merge(
     alloc: Global,
     text: &[Item],

@@ -40,7 +40,7 @@ pub(crate) struct Globals {
 }
 
 impl Globals {
-    /// What is built in. It takes memory.
+    /// What is built in.
     pub(crate) fn new(alloc: Global) -> Result<Globals, ScopeEnd>
         ensures built_in { IfOk result (λ globals. globals ≡ built_in) }
         ensures memory { IfErr result (λ end. end ≡ ScopeEnd.NoMemory) }
@@ -75,14 +75,14 @@ impl Globals {
         })
     }
 
-    /// Whether a type of this name is declared or built in. It takes no memory.
+    /// Whether a type of this name is declared or built in.
     pub(crate) fn has_type(&self, name: &str) -> bool
         ensures { result ≡ is_type_name self.now name.now }
     {
         name == "Word" || self.datatypes.has(name)
     }
 
-    /// The constructor that a name stands for. It takes no memory.
+    /// The constructor that a name stands for.
     pub(crate) fn constructor(&self, name: &str) -> Option<Constructor>
         ensures { result ≡ constructor_of self.now name.now }
     {
@@ -90,7 +90,7 @@ impl Globals {
         at(self.constructors.as_slice(), number as usize).copied()
     }
 
-    /// What a name stands for. It takes no memory.
+    /// What a name stands for.
     pub(crate) fn meaning(&self, name: &str) -> Option<Meaning>
         ensures { result ≡ meaning_of self.now name.now }
     {

@@ -7,7 +7,7 @@ ghost use Rattle.px_scope.specs.Later.{is_type, has_constructor, is_lower, decla
 
 use px_parser::{Item, SCon};
 
-/// Whether a datatype of this name is declared. It takes no memory.
+/// Whether a datatype of this name is declared.
 pub(crate) fn declares_type(text: &[Item], name: &str) -> bool
     ensures { result ≡ in_types text.now name.now }
 {
@@ -29,7 +29,7 @@ fn names_type(item: &Item, name: &str) -> bool
     }
 }
 
-/// Whether a constructor of this name is declared. It takes no memory.
+/// Whether a constructor of this name is declared.
 pub(crate) fn declares_constructor(text: &[Item], name: &str) -> bool
     ensures { result ≡ in_constructors text.now name.now }
 {
@@ -63,7 +63,7 @@ fn is_among(cons: &[SCon], name: &str) -> bool
     false
 }
 
-/// Whether a definition, a lemma or a replica of this name is declared. It takes no memory.
+/// Whether a definition, a lemma or a replica of this name is declared.
 pub(crate) fn declares_lower(text: &[Item], name: &str) -> bool
     ensures { result ≡ in_lowers text.now name.now }
 {

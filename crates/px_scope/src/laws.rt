@@ -1,4 +1,4 @@
-ghost use Rattle.px_scope.specs.Laws.{OneNumbering, OneFault, NeverBoth, NamesRise, FaultIsFirst};
+ghost use Rattle.px_scope.specs.Laws.{OneNumbering, OneFault, NeverBoth, NamesRise, FaultIsFirst, EachNameIsListed};
 
 /// A surface has at most one numbered program.
 pub fn one_numbering()
@@ -23,4 +23,9 @@ pub fn names_rise()
 /// A fault of scope is at the first byte of the text at which a name breaks a rule.
 pub fn fault_is_first()
     ensures { FaultIsFirst }
+{}
+
+/// Up to the first fault of scope, each name and each property's word of the text is looked at; with `names_rise`, once.
+pub fn each_name_is_listed()
+    ensures { EachNameIsListed }
 {}

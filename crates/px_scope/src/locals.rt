@@ -22,7 +22,7 @@ pub(crate) struct TypeLocals {
 }
 
 impl TypeLocals {
-    /// No type parameters. It takes no memory.
+    /// No type parameters.
     pub(crate) fn new(alloc: Global) -> TypeLocals
         ensures { result ≡ no_parameters }
     {
@@ -46,7 +46,7 @@ pub(crate) struct Locals {
 }
 
 impl Locals {
-    /// Nothing is local. It takes no memory.
+    /// Nothing is local.
     pub(crate) fn new(alloc: Global) -> Locals
         ensures { result ≡ nothing_local }
     {
@@ -59,7 +59,7 @@ impl Locals {
         }
     }
 
-    /// What a local name stands for; `None` where it is not local. It takes no memory.
+    /// What a local name stands for; `None` where it is not local.
     pub(crate) fn find(&self, name: &str) -> Option<Local>
         ensures { result ≡ local_of self.now name.now }
     {

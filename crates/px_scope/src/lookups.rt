@@ -9,8 +9,8 @@ use crate::ends::{ScopeEnd, ScopeKind};
 use crate::globals::{Constructor, Globals, Meaning};
 use crate::later::{declares_constructor, declares_lower};
 use crate::locals::{Local, Locals};
-use px_parser::{Item, Name};
 use px_base::Head;
+use px_parser::{Item, Name};
 
 /// A data variable: a parameter by its number, or a pattern's variable, counted from the inside.
 #[derive(Clone, Copy, Debug, PartialEq, Eq)]
@@ -44,7 +44,7 @@ pub(crate) fn fault(kind: ScopeKind, at: u32) -> ScopeEnd
     ScopeEnd::Fault { kind, at }
 }
 
-/// The constructor that a name stands for in an expression or a pattern. It takes no memory.
+/// The constructor that a name stands for in an expression or a pattern.
 pub(crate) fn find_constructor(
     text: &[Item],
     globals: &Globals,
@@ -61,7 +61,7 @@ pub(crate) fn find_constructor(
     }
 }
 
-/// The data variable that a name stands for which is not called. It takes no memory.
+/// The data variable that a name stands for which is not called.
 pub(crate) fn find_variable(
     text: &[Item],
     globals: &Globals,
@@ -84,7 +84,7 @@ pub(crate) fn find_variable(
     }
 }
 
-/// The function that a name stands for which is called. It takes no memory.
+/// The function that a name stands for which is called.
 pub(crate) fn find_called(
     text: &[Item],
     globals: &Globals,
@@ -123,7 +123,7 @@ pub(crate) fn find_called(
     }
 }
 
-/// The function that a name stands for in a function argument's place, where it is called or not. It takes no memory.
+/// The function that a name stands for in a function argument's place, where it is called or not.
 pub(crate) fn find_function(
     text: &[Item],
     globals: &Globals,
@@ -196,7 +196,7 @@ pub(crate) fn is_number(own: Option<u32>, number: u32) -> bool
     }
 }
 
-/// The fault of a constructor's name in a function argument's place. It takes no memory.
+/// The fault of a constructor's name in a function argument's place.
 pub(crate) fn constructor_as_function(text: &[Item], globals: &Globals, name: &Name) -> ScopeEnd
     ensures { Fails (broken_or name.now.at (constructor_argument_fault text.now globals.now name.now.text) None) result }
 {
@@ -209,7 +209,7 @@ pub(crate) fn constructor_as_function(text: &[Item], globals: &Globals, name: &N
     }
 }
 
-/// The fault of a name with a small letter in a replica's first value. It takes no memory.
+/// The fault of a name with a small letter in a replica's first value.
 pub(crate) fn lower_in_from(text: &[Item], globals: &Globals, name: &Name) -> ScopeEnd
     ensures { Fails (broken_or name.now.at (from_fault text.now globals.now name.now.text) None) result }
 {
@@ -222,7 +222,7 @@ pub(crate) fn lower_in_from(text: &[Item], globals: &Globals, name: &Name) -> Sc
     }
 }
 
-/// The number of the definition of which properties are claimed. It takes no memory.
+/// The number of the definition of which properties are claimed.
 pub(crate) fn find_claimed(text: &[Item], globals: &Globals, name: &Name) -> Result<u32, ScopeEnd>
     ensures { Finds name.now.at (claim_fault text.now globals.now name.now.text) (IsClaimed globals.now name.now.text) result }
 {
@@ -236,7 +236,7 @@ pub(crate) fn find_claimed(text: &[Item], globals: &Globals, name: &Name) -> Res
     }
 }
 
-/// The function that merges, by its name. It takes no memory.
+/// The function that merges, by its name.
 pub(crate) fn find_merge(text: &[Item], globals: &Globals, name: &Name) -> Result<Head, ScopeEnd>
     ensures { Finds name.now.at (merge_fault text.now globals.now name.now.text) (λ head. head_of globals.now nothing_local name.now.text ≡ Some head) result }
 {

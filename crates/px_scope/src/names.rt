@@ -22,7 +22,7 @@ impl Model for NameTable {
 }
 
 impl NameTable {
-    /// No names. It takes no memory.
+    /// No names.
     pub(crate) fn new(alloc: Global) -> NameTable
         ensures { result ≡ [] }
     {
@@ -38,8 +38,7 @@ impl NameTable {
         self.names.len()
     }
 
-    /// Adds a name, with the next number, and answers whether it is new. One that is there already stays as it is. It
-    /// takes memory.
+    /// Adds a name, with the next number, and answers whether it is new. One that is there already stays as it is.
     pub(crate) fn add(&mut self, alloc: Global, name: &str) -> Result<bool, ScopeEnd>
         ensures added { IfOk result (λ is_new. self.new ≡ (if is_new then self.old ++ name.now ∷ [] else self.old)) }
         ensures known { IfOk result (λ is_new. is_name self.old name.now ≡ not is_new) }
@@ -50,14 +49,14 @@ impl NameTable {
         Ok(is_new)
     }
 
-    /// Whether the name is there. It takes no memory.
+    /// Whether the name is there.
     pub(crate) fn has(&self, name: &str) -> bool
         ensures { result ≡ is_name self.now name.now }
     {
         self.names.contains(name)
     }
 
-    /// The number of a name; `None` where it is not there, or its number is 2^32 or more. It takes no memory.
+    /// The number of a name; `None` where it is not there, or its number is 2^32 or more.
     pub(crate) fn number(&self, name: &str) -> Option<u32>
         ensures { result ≡ number_of self.now name.now }
     {
@@ -70,14 +69,14 @@ impl NameTable {
         }
     }
 
-    /// The names, by number. It takes no memory.
+    /// The names, by number.
     pub(crate) fn texts(&self) -> &[String]
         ensures { map string_bytes result.now ≡ self.now }
     {
         self.names.as_slice()
     }
 
-    /// Keeps the first names, so many, and drops the others. It takes no memory.
+    /// Keeps the first names, so many, and drops the others.
     pub(crate) fn truncate(&mut self, len: usize)
         ensures { self.new ≡ take len self.old }
     {

@@ -13,8 +13,8 @@ use crate::locals::{Locals, TypeLocals};
 use crate::lookups::fault;
 use crate::properties::{claim, copy_props};
 use crate::types::{resolve_type, resolve_types};
-use px_parser::{Item, Name, SFnType, SParam, SParamKind};
 use px_base::{RawFnType, RawTy};
+use px_parser::{Item, Name, SFnType, SParam, SParamKind};
 use sqlite_items::Items;
 use std::alloc::Global;
 
@@ -25,7 +25,7 @@ pub(crate) struct Parameters {
     pub(crate) values: Items<RawTy>,
 }
 
-/// Makes type parameters local, each of which has a new name. It takes memory.
+/// Makes type parameters local, each of which has a new name.
 pub(crate) fn add_type_parameters(
     alloc: Global,
     globals: &Globals,
@@ -44,7 +44,6 @@ pub(crate) fn add_type_parameters(
 }
 
 /// Makes parameters local, and answers their types. A parameter has a new name, and a function stands before the values.
-/// It takes memory.
 pub(crate) fn resolve_parameters(
     alloc: Global,
     text: &[Item],
@@ -74,7 +73,7 @@ pub(crate) fn resolve_parameters(
     Ok(Parameters { funs, values })
 }
 
-/// Makes a function parameter local. It takes memory.
+/// Makes a function parameter local.
 fn add_function(alloc: Global, locals: &mut Locals, name: &Name) -> Result<(), ScopeEnd>
     requires { locals.old.functions < usize.MAX }
     ensures { Finds name.now.at (new_function_fault locals.old name.now.text) (λ _. locals.new ≡ record locals.old { names = locals.old.names ++ name.now.text ∷ []; functions = locals.old.functions + 1 }) result }
@@ -90,7 +89,7 @@ fn add_function(alloc: Global, locals: &mut Locals, name: &Name) -> Result<(), S
     Ok(())
 }
 
-/// Makes a data parameter local. It takes memory.
+/// Makes a data parameter local.
 fn add_value(alloc: Global, locals: &mut Locals, name: &Name) -> Result<(), ScopeEnd>
     requires { locals.old.values < usize.MAX }
     ensures { Finds name.now.at (new_value_fault locals.old name.now.text) (λ _. locals.new ≡ record locals.old { names = locals.old.names ++ name.now.text ∷ []; values = locals.old.values + 1 }) result }
@@ -102,7 +101,7 @@ fn add_value(alloc: Global, locals: &mut Locals, name: &Name) -> Result<(), Scop
     Ok(())
 }
 
-/// The written function type that one is. It takes memory.
+/// The written function type that one is.
 fn resolve_fn_type(
     alloc: Global,
     text: &[Item],

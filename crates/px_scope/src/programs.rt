@@ -3,6 +3,8 @@ ghost use Rattle.std.specs.Prelude.{◌≡◌, ◌≤◌, IfOk, IfErr, Ok, Err};
 ghost use Rattle.px_base.specs.declared.raw.RawProgram.{RawProgram as AnyProgram};
 ghost use Rattle.px_scope.specs.declared.ends.ScopeEnd.TheVariants as ends;
 ghost use Rattle.px_base.specs.declared.limits.TheConstants.{PROGRAM_BYTES};
+ghost use Rattle.px_base.specs.Fitting.{IsFitting, raw_bool};
+ghost use Rattle.px_base.specs.Lawful.{IsLawful};
 ghost use Rattle.px_parser.specs.declared.surface.Item.TheVariants as items;
 ghost use Rattle.px_parser.specs.Sizes.{surface_size, IsWithinNesting};
 ghost use Rattle.px_parser.specs.Filled.{IsFilled};
@@ -11,24 +13,22 @@ ghost use Rattle.px_scope.specs.Standing.{built_in};
 ghost use Rattle.px_scope.specs.Uses.{Broken};
 ghost use Rattle.px_scope.specs.Declaring.{constructor_names, after};
 ghost use Rattle.px_scope.specs.ItemUses.{item_uses, text_uses};
-ghost use Rattle.px_scope.specs.Programs.{start, raw_bool, IsNext, AreNext, IsNumbering, IsFault};
-ghost use Rattle.px_scope.specs.Fitting.{IsFitting};
+ghost use Rattle.px_scope.specs.Programs.{start, IsNext, AreNext, IsNumbering, IsFault};
 ghost use Rattle.px_scope.specs.Small.{IsSmallItem, IsSmall, HasRoom};
-ghost use Rattle.px_scope.specs.Lawful.{IsLawful};
 ghost use Rattle.px_scope.specs.Answers.{Resolves, IsEnd, IsUnlessNoMemory};
 
 use crate::data::resolve_data;
 use crate::declarations::{resolve_claim, resolve_definition, resolve_lemma, resolve_replica};
 use crate::ends::ScopeEnd;
 use crate::globals::Globals;
-use px_parser::{Item, SClaim, SCon, SData, SDef, SLemma, SReplica, Surface};
 use px_base::{Decl, Names, RawCon, RawData, RawProgram, Text};
+use px_parser::{Item, SClaim, SCon, SData, SDef, SLemma, SReplica, Surface};
 use sqlite_items::Items;
 use std::alloc::Global;
 
-/// The numbered program of a surface: each name is the number of what it stands for. A fault exactly where a name breaks a
-/// rule of scope: the first by place, with the first rule that it breaks. It takes memory; its calls nest as deep as the
-/// types and expressions of the surface, and its time is linear in it.
+/// The numbered program of a surface: each name is the number of what it stands for. A fault exactly where a name breaks
+/// a rule of scope: the first by place, with the first rule that it breaks. Its calls nest as deep as the types and
+/// expressions of the surface, and its time is linear in it.
 pub fn resolve(alloc: Global, surface: &Surface) -> Result<RawProgram, ScopeEnd>
     requires small { surface_size surface.now ≤ PROGRAM_BYTES }
     requires filled { IsFilled surface.now }
@@ -50,7 +50,7 @@ pub fn resolve(alloc: Global, surface: &Surface) -> Result<RawProgram, ScopeEnd>
     resolve_items(alloc, surface.items.as_slice())
 }
 
-/// The numbered program of these declarations. It takes memory.
+/// The numbered program of these declarations.
 fn resolve_items(alloc: Global, text: &[Item]) -> Result<RawProgram, ScopeEnd>
     requires { IsSmall text.now }
     ensures { Resolves (text_uses text.now) (AreNext built_in start text.now) result }
@@ -63,7 +63,7 @@ fn resolve_items(alloc: Global, text: &[Item]) -> Result<RawProgram, ScopeEnd>
     Ok(program)
 }
 
-/// The program of no declarations. It takes memory.
+/// The program of no declarations.
 fn start_program(alloc: Global) -> Result<RawProgram, ScopeEnd>
     ensures is { IfOk result (λ program. program ≡ start) }
     ensures memory { IfErr result (λ end. end ≡ ScopeEnd.NoMemory) }
@@ -81,7 +81,7 @@ fn start_program(alloc: Global) -> Result<RawProgram, ScopeEnd>
     })
 }
 
-/// The declaration of `Bool`. It takes memory.
+/// The declaration of `Bool`.
 fn bool_data(alloc: Global) -> Result<RawData, ScopeEnd>
     ensures is { IfOk result (λ datatype. datatype ≡ raw_bool) }
     ensures memory { IfErr result (λ end. end ≡ ScopeEnd.NoMemory) }
@@ -102,7 +102,7 @@ fn bool_data(alloc: Global) -> Result<RawData, ScopeEnd>
     })
 }
 
-/// The names of `Bool` and its constructors. It takes memory.
+/// The names of `Bool` and its constructors.
 fn start_names(alloc: Global) -> Result<Names, ScopeEnd>
     ensures is { IfOk result (λ names. names ≡ start.names) }
     ensures memory { IfErr result (λ end. end ≡ ScopeEnd.NoMemory) }
@@ -123,7 +123,7 @@ fn start_names(alloc: Global) -> Result<Names, ScopeEnd>
     })
 }
 
-/// A copy of a text. It takes memory.
+/// A copy of a text.
 fn copy_text(alloc: Global, text: &str) -> Result<Text, ScopeEnd>
     ensures is { IfOk result (λ copy. copy ≡ text.now) }
     ensures memory { IfErr result (λ end. end ≡ ScopeEnd.NoMemory) }
@@ -131,7 +131,7 @@ fn copy_text(alloc: Global, text: &str) -> Result<Text, ScopeEnd>
     Ok(Text::new(String::from_str(alloc, text)?))
 }
 
-/// The names of constructors. It takes memory.
+/// The names of constructors.
 fn copy_names(alloc: Global, cons: &[SCon]) -> Result<Items<Text>, ScopeEnd>
     ensures is { IfOk result (λ names. names ≡ constructor_names cons.now) }
     ensures memory { IfErr result (λ end. end ≡ ScopeEnd.NoMemory) }
@@ -143,7 +143,7 @@ fn copy_names(alloc: Global, cons: &[SCon]) -> Result<Items<Text>, ScopeEnd>
     Ok(names)
 }
 
-/// Adds a declaration to the program, and to what is declared. It takes memory.
+/// Adds a declaration to the program, and to what is declared.
 fn resolve_item(
     alloc: Global,
     text: &[Item],
@@ -164,7 +164,7 @@ fn resolve_item(
     }
 }
 
-/// Adds a datatype to the program, and to what is declared. It takes memory.
+/// Adds a datatype to the program, and to what is declared.
 fn add_datatype(
     alloc: Global,
     text: &[Item],
@@ -187,7 +187,7 @@ fn add_datatype(
     Ok(())
 }
 
-/// Adds a definition to the program, and to what is declared. It takes memory.
+/// Adds a definition to the program, and to what is declared.
 fn add_definition(
     alloc: Global,
     text: &[Item],
@@ -208,7 +208,7 @@ fn add_definition(
     Ok(())
 }
 
-/// Adds a claim to the program, and to what is declared. It takes memory.
+/// Adds a claim to the program, and to what is declared.
 fn add_claim(
     alloc: Global,
     text: &[Item],
@@ -227,7 +227,7 @@ fn add_claim(
     Ok(())
 }
 
-/// Adds a lemma to the program, and to what is declared. It takes memory.
+/// Adds a lemma to the program, and to what is declared.
 fn add_lemma(
     alloc: Global,
     text: &[Item],
@@ -248,7 +248,7 @@ fn add_lemma(
     Ok(())
 }
 
-/// Adds a replica to the program, and to what is declared. It takes memory.
+/// Adds a replica to the program, and to what is declared.
 fn add_replica(
     alloc: Global,
     text: &[Item],

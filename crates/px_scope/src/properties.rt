@@ -11,8 +11,8 @@ use px_base::{Prop, RawProp};
 use sqlite_items::Items;
 use std::alloc::Global;
 
-/// Adds the properties of a list to those that are claimed, each of which is a new one. It takes memory; its time is
-/// linear in the list, since there are eleven properties.
+/// Adds the properties of a list to those that are claimed, each of which is a new one. Its time is linear in the list,
+/// since there are eleven properties.
 pub(crate) fn claim(claimed: &mut Items<Prop>, props: &[RawProp]) -> Result<(), ScopeEnd>
     ensures resolves { Resolves (properties_uses claimed.old props.now) (λ _. claimed.new ≡ claimed.old ++ props_of props.now) result }
 {
@@ -57,7 +57,7 @@ fn number(prop: Prop) -> u32
     }
 }
 
-/// A copy of the properties. It takes memory.
+/// A copy of the properties.
 pub(crate) fn copy_props(alloc: Global, props: &[RawProp]) -> Result<Items<RawProp>, ScopeEnd>
     ensures is { IfOk result (λ copy. copy ≡ props.now) }
     ensures memory { IfErr result (λ end. end ≡ ScopeEnd.NoMemory) }
@@ -65,7 +65,7 @@ pub(crate) fn copy_props(alloc: Global, props: &[RawProp]) -> Result<Items<RawPr
     Ok(Items::from_slice(alloc, props)?)
 }
 
-/// A copy of the properties. It takes memory.
+/// A copy of the properties.
 pub(crate) fn copy_claimed(alloc: Global, claimed: &[Prop]) -> Result<Items<Prop>, ScopeEnd>
     ensures is { IfOk result (λ copy. copy ≡ claimed.now) }
     ensures memory { IfErr result (λ end. end ≡ ScopeEnd.NoMemory) }

@@ -12,13 +12,12 @@ use crate::globals::Globals;
 use crate::later::declares_type;
 use crate::locals::TypeLocals;
 use crate::lookups::{absent_kind, fault, is_number};
-use px_parser::{Item, SType};
 use px_base::{RawTy, RawTyKind};
+use px_parser::{Item, SType};
 use sqlite_items::Items;
 use std::alloc::Global;
 
-/// The written type that a type is, by what its name stands for, and its arguments'. It takes memory; its calls nest as
-/// deep as the type.
+/// The written type that a type is, by what its name stands for, and its arguments'. Its calls nest as deep as the type.
 #[cycle(types)]
 pub(crate) fn resolve_type(
     alloc: Global,
@@ -38,7 +37,7 @@ pub(crate) fn resolve_type(
     })
 }
 
-/// The written types that types are. It takes memory.
+/// The written types that types are.
 #[cycle(types)]
 pub(crate) fn resolve_types(
     alloc: Global,
@@ -56,7 +55,7 @@ pub(crate) fn resolve_types(
     Ok(resolved)
 }
 
-/// What a type's name stands for. It takes no memory.
+/// What a type's name stands for.
 fn find_type(
     text: &[Item],
     globals: &Globals,
@@ -83,7 +82,7 @@ fn find_type(
     }
 }
 
-/// What a type's name stands for, where it is declared. It takes no memory.
+/// What a type's name stands for, where it is declared.
 fn type_kind(globals: &Globals, types: &TypeLocals, name: &str) -> Option<RawTyKind>
     ensures { result ≡ type_of globals.now types.now name.now }
 {

@@ -19,7 +19,7 @@ impl Model for Bytes {
 }
 
 impl Bytes {
-    /// No bytes. It takes no memory: the allocator is for what is added.
+    /// No bytes. The allocator is for what is added.
     pub fn new(alloc: Global) -> Bytes
         ensures { result ≡ [] }
     {
@@ -28,14 +28,14 @@ impl Bytes {
         }
     }
 
-    /// These bytes. It takes no memory.
+    /// These bytes.
     pub fn from_vec(items: Vec<u8>) -> Bytes
         ensures { result ≡ items.items }
     {
         Bytes { items }
     }
 
-    /// A copy of these bytes. It answers `NoMemory` only where no memory is left.
+    /// A copy of these bytes.
     pub fn from_slice(alloc: Global, items: &[u8]) -> Result<Bytes, NoMemory>
         ensures { IfOk result (λ bytes. bytes ≡ items.now) }
     {

@@ -9,7 +9,7 @@ use px_base::NoMemory;
 pub struct Failed;
 
 /// Counts one more fault, up to the last value of the count, and gives the answer for it.
-pub fn fault(count: &mut u64) -> Failed
+pub(crate) fn fault(count: &mut u64) -> Failed
     ensures next { count.new ≡ next_count count.old }
     ensures later { count.old ≤ count.new }
 {

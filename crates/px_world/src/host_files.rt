@@ -15,7 +15,7 @@ impl HostFiles<'_> {
     ghost use Rattle.std.specs.Prelude.{◌≡◌, false};
     ghost use Rattle.px_world.specs.Host.{host_is_open, host_file_faults};
 
-    /// The files of this runtime: none is open, and there are no faults. It takes no memory.
+    /// The files of this runtime: none is open, and there are no faults.
     pub fn new(rt: &HostRuntime) -> HostFiles<'_>
         ensures closed { host_is_open result ≡ false }
         ensures faults { host_file_faults result ≡ 0 }

@@ -22,7 +22,7 @@ impl HostOut<'_> {
     ghost use Rattle.px_world.specs.declared.host_out.Stream.TheVariants.{Output, Error};
     ghost use Rattle.px_world.specs.Host.{host_stream, host_out_faults};
 
-    /// The standard output of this runtime, with no faults. It takes no memory.
+    /// The standard output of this runtime, with no faults.
     pub fn output(rt: &HostRuntime) -> HostOut<'_>
         ensures stream { host_stream result ≡ Output }
         ensures faults { host_out_faults result ≡ 0 }
@@ -34,7 +34,7 @@ impl HostOut<'_> {
         }
     }
 
-    /// The standard error of this runtime, with no faults. It takes no memory.
+    /// The standard error of this runtime, with no faults.
     pub fn error(rt: &HostRuntime) -> HostOut<'_>
         ensures stream { host_stream result ≡ Error }
         ensures faults { host_out_faults result ≡ 0 }

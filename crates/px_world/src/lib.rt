@@ -1,6 +1,8 @@
 //! Texts in, bytes out: the two traits by which the product reads texts and writes bytes, the forms
 //! of them in memory and over the host, and the two calls that read a whole text and write all bytes.
 //! A device that fails raises its count of faults, so that each answer of a fault has its cause.
+//! A call that may answer `NoMemory` takes memory, and answers so only where there is none; of the others,
+//! the writes of a memory sink alone take any.
 #![tactic(auto)]
 
 mod bytes;

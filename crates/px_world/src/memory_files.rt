@@ -36,8 +36,7 @@ impl MemoryFiles {
 
     /// Files with no texts, none open, no calls made and no faults. The calls of `open_text` and `read`
     /// that `fails` lists will fail; they are numbered together from 0, and the number stops at 2^64-1.
-    /// Each read gives at most `piece` bytes, which must be at least 1. It takes memory, and answers
-    /// `NoMemory` only where none is left.
+    /// Each read gives at most `piece` bytes, which must be at least 1.
     pub fn new(alloc: Global, fails: &[u64], piece: usize) -> Result<MemoryFiles, NoMemory>
         requires { 0 < piece }
         ensures { IfOk result (StartsWithNone fails.now piece) }
@@ -55,8 +54,7 @@ impl MemoryFiles {
     }
 
     /// Gives a name these bytes, in place of those that it had. Every other name stays as it was, and so
-    /// do the open text and what is still to be read of it. It takes memory; without memory nothing
-    /// changes.
+    /// do the open text and what is still to be read of it. Without memory nothing changes.
     pub fn add(&mut self, name: &str, bytes: &[u8]) -> Result<(), NoMemory>
         ensures named { OnOk result (bytes_by_name self.new name.now ≡ Some bytes.now) }
         ensures others { (other : List ℕ) → other ≢ name.now
@@ -90,7 +88,7 @@ impl Files for MemoryFiles {
     ghost faults = { fault_count };
 
     /// As for all files. It fails exactly where this call is listed or the name isn't there, and only
-    /// then does the count of faults rise. It takes no memory.
+    /// then does the count of faults rise.
     fn open_text(&mut self, name: &str) -> Result<(), Failed>
         ensures texts { bytes_by_name self.new ≡ bytes_by_name self.old }
         ensures opened { is_some (left self.new) ≡ is_ok result }
@@ -120,8 +118,7 @@ impl Files for MemoryFiles {
     }
 
     /// As for all files. It fails exactly where this call is listed, and only then does the count of
-    /// faults rise. Else it gives as many bytes as the piece, the buffer and the text allow. It takes no
-    /// memory.
+    /// faults rise. Else it gives as many bytes as the piece, the buffer and the text allow.
     fn read(&mut self, buf: &mut [u8]) -> Result<usize, Failed>
         requires { IsTrue (is_some (left self.old)) }
         ensures texts { bytes_by_name self.new ≡ bytes_by_name self.old }

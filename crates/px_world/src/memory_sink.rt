@@ -22,8 +22,8 @@ impl MemorySink {
     ghost use Rattle.px_world.specs.MemorySink.{collected, StartsWithNoBytes};
 
     /// A sink with no bytes, no writes made and no faults. The writes that `fails` lists will fail; they
-    /// are numbered from 0, and the number stops at 2^64-1. Each write takes at most `piece` bytes, which
-    /// must be at least 1. It takes memory, and answers `NoMemory` only where none is left.
+    /// are numbered from 0, and the number stops at 2^64-1. Each write takes at most `piece` bytes,
+    /// which must be at least 1.
     pub fn new(alloc: Global, fails: &[u64], piece: usize) -> Result<MemorySink, NoMemory>
         requires { 0 < piece }
         ensures { IfOk result (StartsWithNoBytes fails.now piece) }
@@ -38,7 +38,7 @@ impl MemorySink {
         })
     }
 
-    /// All the bytes that were written. It takes no memory.
+    /// All the bytes that were written.
     pub fn written(&self) -> &[u8]
         ensures { result.now ≡ collected self.now }
     {

@@ -9,8 +9,7 @@ use std::alloc::Global;
 /// How many bytes are asked for at a time.
 const PIECE: usize = 4096;
 
-/// Reads a whole text, of at most `limit` bytes. The name must be one that may be opened. It takes
-/// memory for the bytes.
+/// Reads a whole text, of at most `limit` bytes. The name must be one that may be opened.
 ///
 /// - `Ok` has all the bytes of the text, where the files tell them.
 /// - `ReadFault` comes only where the files' count of faults rose.

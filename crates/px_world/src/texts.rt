@@ -6,13 +6,13 @@ use px_base::Text;
 
 /// A text and the name that it has.
 #[derive(Drop)]
-pub struct NamedText {
-    pub name: Text,
-    pub bytes: Bytes,
+pub(crate) struct NamedText {
+    pub(crate) name: Text,
+    pub(crate) bytes: Bytes,
 }
 
 /// The index of the newest of these texts that has this name.
-pub fn newest_of(texts: &[NamedText], name: &str) -> Option<usize>
+pub(crate) fn newest_of(texts: &[NamedText], name: &str) -> Option<usize>
     ensures { IsNewest texts.now name.now result }
 {
     let mut newest = None;
@@ -25,7 +25,7 @@ pub fn newest_of(texts: &[NamedText], name: &str) -> Option<usize>
 }
 
 /// The bytes of the text at this index from one on, or none past its end.
-pub fn rest_of(texts: &[NamedText], index: usize, at: usize) -> &[u8]
+pub(crate) fn rest_of(texts: &[NamedText], index: usize, at: usize) -> &[u8]
     requires { index < length texts.now }
     ensures rest { result.now ≡ drop at (bytes_at texts.now index) }
     ensures fits { length (bytes_at texts.now index) < 2 ^ 64 }
@@ -35,7 +35,7 @@ pub fn rest_of(texts: &[NamedText], index: usize, at: usize) -> &[u8]
 }
 
 /// Puts at most `piece` bytes from the front of `rest` at the front of the buffer, and says how many.
-pub fn copy_piece(rest: &[u8], buf: &mut [u8], piece: usize) -> usize
+pub(crate) fn copy_piece(rest: &[u8], buf: &mut [u8], piece: usize) -> usize
     ensures count { result ≡ min piece (min (length buf.old) (length rest.now)) }
     ensures front { take result buf.new ≡ take result rest.now }
 {

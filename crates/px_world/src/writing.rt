@@ -5,7 +5,7 @@ ghost use Rattle.px_world.specs.Known.{AppendsPrefix};
 
 use crate::{Sink, WriteFault};
 
-/// Writes all the bytes. It takes no memory of its own.
+/// Writes all the bytes.
 ///
 /// `WriteFault` comes only where the sink's count of faults rose, and then a front of the bytes was
 /// written.

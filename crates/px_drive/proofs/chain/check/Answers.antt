@@ -1,24 +1,27 @@
 use Rattle.std.proofs.Common.{refl, inl, inr, []}
 use Rattle.std.proofs.KnownBytes.{Appends-nil}
+use Rattle.px_drive.proofs.Chains.{passed_on}
 use Rattle.px_drive.proofs.chain.check.Goals as goal
 
-pub returns-in-Err-read_source-clause-runs : goal.returns-in-Err-read_source-clause-runs
-returns-in-Err-read_source-clause-runs g c = record {
+pub returns-in_err-program-clause-runs : goal.returns-in_err-program-clause-runs
+returns-in_err-program-clause-runs g c = passed_on _ _ c.from_residual-in_err-program.ensures.1 (record {
   printed = [];
-  allowed = inr (_, c.in-Ok.ensures.reads, inl (c.in-Err-read_source.ensures.source, refl));
+  allowed = inr (_, c.in_ok-text.ensures.reads, inl (c.in_err-program.ensures.source, refl));
   wrote = Appends-nil _;
-}
+})
 
-pub returns-in-Ok-print_checked-clause-runs : goal.returns-in-Ok-print_checked-clause-runs
-returns-in-Ok-print_checked-clause-runs g c = record {
-  printed = _;
-  allowed = inr (_, c.in-Ok.ensures.reads, inr (_, c.in-Ok-read_source.ensures.source, refl));
-  wrote = c.in-Ok-print_checked.ensures.ok;
-}
+pub returns-in_err-print_checked-clause-runs : goal.returns-in_err-print_checked-clause-runs
+returns-in_err-print_checked-clause-runs g c =
+    let front = c.in_err-print_checked.ensures.writes.0 in
+    passed_on _ _ c.from_residual-in_err-print_checked.ensures.1 (record {
+      printed = _;
+      allowed = inr (_, c.in_ok-text.ensures.reads, inr (_, c.in_ok-program.ensures.source, (c.in_err-print_checked.ensures.writes.1, (front.0, refl))));
+      wrote = front.2;
+    })
 
 pub returns-clause-runs : goal.returns-clause-runs
-returns-clause-runs g c = let front = c.in-Err-print_checked.ensures.prefix in record {
+returns-clause-runs g c = record {
   printed = _;
-  allowed = inr (_, c.in-Ok.ensures.reads, inr (_, c.in-Ok-read_source.ensures.source, (c.in-Err-print_checked.ensures.fault, (front.0, refl))));
-  wrote = front.2;
+  allowed = inr (_, c.in_ok-text.ensures.reads, inr (_, c.in_ok-program.ensures.source, refl));
+  wrote = c.in_ok-print_checked.ensures.writes;
 }

@@ -1,91 +1,49 @@
 use Rattle.std.proofs.Common.{refl, inl, inr, [], Ok, Err}
 use Rattle.std.proofs.KnownBytes.{Appends-nil}
 use Rattle.px_drive.specs.declared.outcome.Which.TheVariants.{Derivation}
-use Rattle.px_drive.proofs.Chains.{ReadsText-later}
+use Rattle.px_drive.proofs.Chains.{passed_on, read_later}
 use Rattle.px_drive.proofs.chain.replay.Goals as goal
 
-pub returns-in-Err-read_source-clause-runs : goal.returns-in-Err-read_source-clause-runs
-returns-in-Err-read_source-clause-runs g c = record {
+pub returns-in_err-program-clause-runs : goal.returns-in_err-program-clause-runs
+returns-in_err-program-clause-runs g c = passed_on _ _ c.from_residual-in_err-program.ensures.1 (record {
   printed = [];
-  allowed = inr (_, c.in-Ok.ensures.reads, inl (c.in-Err-read_source.ensures.source, refl));
+  allowed = inr (_, c.in_ok-text.ensures.reads, inl (c.in_err-program.ensures.source, refl));
   wrote = Appends-nil _;
-}
+})
 
-pub returns-in-Err-read_text-clause-runs : goal.returns-in-Err-read_text-clause-runs
-returns-in-Err-read_text-clause-runs g c = record {
-  printed = [];
-  allowed = inr (
-    _,
-    c.in-Ok.ensures.reads,
-    inr (
-      _,
-      c.in-Ok-read_source.ensures.source,
-      inl (
-        ReadsText-later Derivation _ _ (g.F.Files.is_open c.read_text-2.new.files) (g.F.Files.rest c.read_text-2.new.files) _ _ (g.F.Files.faults c.read_text-2.new.files)
-            c.args.derivation.now (Err c.in-Err-read_text.end) c.read_text.ensures.texts c.read_text.ensures.later c.in-Err-read_text.ensures.reads,
-        refl,
-      ),
-    ),
-  );
-  wrote = Appends-nil _;
-}
+pub returns-in_err-steps-clause-runs : goal.returns-in_err-steps-clause-runs
+returns-in_err-steps-clause-runs g c =
+    let refused = read_later g.F.Files _ _ c.read_text-2.new.files Derivation _ (Err c.in_err-steps.field-0.0) c.in_ok-text.ensures.keeps c.in_err-steps.ensures.reads in
+    passed_on _ _ c.from_residual-in_err-steps.ensures.1 (record {
+      printed = [];
+      allowed = inr (_, c.in_ok-text.ensures.reads, inr (_, c.in_ok-program.ensures.source, inl (refused, refl)));
+      wrote = Appends-nil _;
+    })
 
-pub returns-in-Err-accept-clause-runs : goal.returns-in-Err-accept-clause-runs
-returns-in-Err-accept-clause-runs g c = record {
-  printed = [];
-  allowed = inr (
-    _,
-    c.in-Ok.ensures.reads,
-    inr (
-      _,
-      c.in-Ok-read_source.ensures.source,
-      inr (
-        _,
-        ReadsText-later Derivation _ _ (g.F.Files.is_open c.read_text-2.new.files) (g.F.Files.rest c.read_text-2.new.files) _ _ (g.F.Files.faults c.read_text-2.new.files)
-            c.args.derivation.now (Ok c.in-Ok-read_text.steps) c.read_text.ensures.texts c.read_text.ensures.later c.in-Ok-read_text.ensures.reads,
-        inl (c.in-Err-accept.ensures, refl),
-      ),
-    ),
-  );
-  wrote = Appends-nil _;
-}
+pub returns-in_err-obligations-clause-runs : goal.returns-in_err-obligations-clause-runs
+returns-in_err-obligations-clause-runs g c =
+    let read = read_later g.F.Files _ _ c.read_text-2.new.files Derivation _ (Ok c.in_ok-steps.steps) c.in_ok-text.ensures.keeps c.in_ok-steps.ensures.reads in
+    passed_on _ _ c.from_residual-in_err-obligations.ensures.1 (record {
+      printed = [];
+      allowed = inr (_, c.in_ok-text.ensures.reads, inr (_, c.in_ok-program.ensures.source, inr (_, read, inl (c.in_err-obligations.ensures, refl))));
+      wrote = Appends-nil _;
+    })
 
-pub returns-in-Ok-print_accepted-clause-runs : goal.returns-in-Ok-print_accepted-clause-runs
-returns-in-Ok-print_accepted-clause-runs g c = record {
-  printed = _;
-  allowed = inr (
-    _,
-    c.in-Ok.ensures.reads,
-    inr (
-      _,
-      c.in-Ok-read_source.ensures.source,
-      inr (
-        _,
-        ReadsText-later Derivation _ _ (g.F.Files.is_open c.read_text-2.new.files) (g.F.Files.rest c.read_text-2.new.files) _ _ (g.F.Files.faults c.read_text-2.new.files)
-            c.args.derivation.now (Ok c.in-Ok-read_text.steps) c.read_text.ensures.texts c.read_text.ensures.later c.in-Ok-read_text.ensures.reads,
-        inr (c.in-Ok-accept.obligations, c.in-Ok-accept.ensures, refl),
-      ),
-    ),
-  );
-  wrote = c.in-Ok-print_accepted.ensures.ok;
-}
+pub returns-in_err-print_accepted-clause-runs : goal.returns-in_err-print_accepted-clause-runs
+returns-in_err-print_accepted-clause-runs g c =
+    let read = read_later g.F.Files _ _ c.read_text-2.new.files Derivation _ (Ok c.in_ok-steps.steps) c.in_ok-text.ensures.keeps c.in_ok-steps.ensures.reads in
+    let front = c.in_err-print_accepted.ensures.writes.0 in
+    passed_on _ _ c.from_residual-in_err-print_accepted.ensures.1 (record {
+      printed = _;
+      allowed = inr (_, c.in_ok-text.ensures.reads, inr (_, c.in_ok-program.ensures.source, inr (_, read, inr (c.in_ok-obligations.obligations, c.in_ok-obligations.ensures, (c.in_err-print_accepted.ensures.writes.1, (front.0, refl))))));
+      wrote = front.2;
+    })
 
 pub returns-clause-runs : goal.returns-clause-runs
-returns-clause-runs g c = let front = c.in-Err-print_accepted.ensures.prefix in record {
-  printed = _;
-  allowed = inr (
-    _,
-    c.in-Ok.ensures.reads,
-    inr (
-      _,
-      c.in-Ok-read_source.ensures.source,
-      inr (
-        _,
-        ReadsText-later Derivation _ _ (g.F.Files.is_open c.read_text-2.new.files) (g.F.Files.rest c.read_text-2.new.files) _ _ (g.F.Files.faults c.read_text-2.new.files)
-            c.args.derivation.now (Ok c.in-Ok-read_text.steps) c.read_text.ensures.texts c.read_text.ensures.later c.in-Ok-read_text.ensures.reads,
-        inr (c.in-Ok-accept.obligations, c.in-Ok-accept.ensures, (c.in-Err-print_accepted.ensures.fault, (front.0, refl))),
-      ),
-    ),
-  );
-  wrote = front.2;
-}
+returns-clause-runs g c =
+    let read = read_later g.F.Files _ _ c.read_text-2.new.files Derivation _ (Ok c.in_ok-steps.steps) c.in_ok-text.ensures.keeps c.in_ok-steps.ensures.reads in
+    record {
+      printed = _;
+      allowed = inr (_, c.in_ok-text.ensures.reads, inr (_, c.in_ok-program.ensures.source, inr (_, read, inr (c.in_ok-obligations.obligations, c.in_ok-obligations.ensures, refl))));
+      wrote = c.in_ok-print_accepted.ensures.writes;
+    }

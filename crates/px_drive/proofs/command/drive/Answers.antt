@@ -1,9 +1,18 @@
 use Rattle.px_drive.proofs.Completeness.{answer_done}
-use Rattle.px_drive.proofs.Truths.{headline}
+use Rattle.px_drive.proofs.Truths.{headline, first_broken, read_fault, write_fault}
 use Rattle.px_drive.proofs.command.drive.Goals as goal
 
 pub returns-clause-headline : goal.returns-clause-headline
 returns-clause-headline g c = headline _ _ _ _ _ c.answer.ensures.answer c.accepted_is_true.ensures
 
+pub returns-clause-first_broken : goal.returns-clause-first_broken
+returns-clause-first_broken g c = first_broken _ _ _ _ _ c.answer.ensures.answer c.scope_fault_is_first.ensures
+
 pub returns-clause-complete : goal.returns-clause-complete
-returns-clause-complete g c = λ line is can calm. answer_done c.one_source.ensures c.never_both.ensures _ _ _ _ _ c.answer.ensures.answer line is can calm
+returns-clause-complete g c = answer_done c.one_source.ensures c.never_both.ensures _ _ _ _ _ c.answer.ensures.answer
+
+pub returns-clause-read_fault : goal.returns-clause-read_fault
+returns-clause-read_fault g c = read_fault _ _ _ _ _ c.answer.ensures.answer
+
+pub returns-clause-write_fault : goal.returns-clause-write_fault
+returns-clause-write_fault g c = write_fault _ _ _ _ _ c.answer.ensures.answer

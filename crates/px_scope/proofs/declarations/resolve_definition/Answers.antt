@@ -1,11 +1,11 @@
 use Rattle.std.proofs.Common.{refl, ap, ◌∙◌}
 use Rattle.px_scope.specs.Declaring.{function_count}
-use Rattle.px_scope.proofs.DefinitionSteps.{opened, definition_head_fails, definition_result_fails, definition_props_fail, definition_body_fails, definition_fine}
+use Rattle.px_scope.proofs.DefinitionSteps.{opened, definition_heading_fails, definition_result_fails, definition_props_fail, definition_body_fails, definition_fine}
 use Rattle.px_scope.proofs.declarations.resolve_definition.Goals as goal
 
 pub returns-in_err-locals : goal.returns-in_err-locals
 returns-in_err-locals c =
-    definition_head_fails c.args.text.now c.args.globals.now c.args.definition.now c.in_ok-check_new.ensures.0 _ c.from_residual-in_err-locals.result c.in_err-locals.field-0.0 c.from_residual-in_err-locals.ensures.1 c.as_slice.result.now c.as_slice-2.result.now c.as_slice.ensures c.as_slice-2.ensures c.in_err-locals.ensures
+    definition_heading_fails c.args.text.now c.args.globals.now c.args.definition.now c.in_ok-check_new.ensures.0 _ c.from_residual-in_err-locals.result c.in_err-locals.field-0.0 c.from_residual-in_err-locals.ensures.1 c.as_slice.result.now c.as_slice-2.result.now c.as_slice.ensures c.as_slice-2.ensures c.in_err-locals.ensures
 
 pub returns-in_err-result : goal.returns-in_err-result
 returns-in_err-result c =

@@ -1,11 +1,11 @@
 use Rattle.std.proofs.Common.{◌-◌, length, refl}
 use Rattle.px_scope.proofs.DefinitionSteps.{opened}
-use Rattle.px_scope.proofs.ReplicaSteps.{lemma_head_fails, lemma_premises_fail, lemma_conclusion_fails, lemma_fine}
+use Rattle.px_scope.proofs.ReplicaSteps.{lemma_heading_fails, lemma_premises_fail, lemma_conclusion_fails, lemma_fine}
 use Rattle.px_scope.proofs.declarations.resolve_lemma.Goals as goal
 
 pub returns-in_err-locals : goal.returns-in_err-locals
 returns-in_err-locals c =
-    lemma_head_fails c.args.text.now c.args.globals.now c.args.lemma.now c.in_ok-check_new.ensures.0 _ c.from_residual-in_err-locals.result c.in_err-locals.field-0.0 c.from_residual-in_err-locals.ensures.1 c.as_slice.result.now c.as_slice-2.result.now c.as_slice.ensures c.as_slice-2.ensures c.in_err-locals.ensures
+    lemma_heading_fails c.args.text.now c.args.globals.now c.args.lemma.now c.in_ok-check_new.ensures.0 _ c.from_residual-in_err-locals.result c.in_err-locals.field-0.0 c.from_residual-in_err-locals.ensures.1 c.as_slice.result.now c.as_slice-2.result.now c.as_slice.ensures c.as_slice-2.ensures c.in_err-locals.ensures
 
 pub returns-in_err-premises : goal.returns-in_err-premises
 returns-in_err-premises c =

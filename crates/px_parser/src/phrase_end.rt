@@ -2,31 +2,31 @@ use std::alloc::{AllocError, AllocFailed};
 
 /// Why nothing was read.
 #[derive(Clone, Copy, Debug, PartialEq, Eq)]
-pub(crate) enum ReadEnd {
+pub(crate) enum PhraseEnd {
     /// So many tokens are left at the first one that fits nothing.
     Fault { left: usize },
     /// No memory was left.
     NoMemory,
 }
 
-impl From<AllocError> for ReadEnd {
+impl From<AllocError> for PhraseEnd {
     ghost use Rattle.std.specs.Prelude.{◌≡◌};
-    ghost use Rattle.px_parser.specs.declared.read_end.ReadEnd.TheVariants.{NoMemory};
+    ghost use Rattle.px_parser.specs.declared.phrase_end.PhraseEnd.TheVariants.{NoMemory};
 
     ghost from_gives = { λ _ end. end ≡ NoMemory };
 
-    fn from(_error: AllocError) -> ReadEnd {
-        ReadEnd::NoMemory
+    fn from(_error: AllocError) -> PhraseEnd {
+        PhraseEnd::NoMemory
     }
 }
 
-impl<T: Drop> From<AllocFailed<T>> for ReadEnd {
+impl<T: Drop> From<AllocFailed<T>> for PhraseEnd {
     ghost use Rattle.std.specs.Prelude.{◌≡◌};
-    ghost use Rattle.px_parser.specs.declared.read_end.ReadEnd.TheVariants.{NoMemory};
+    ghost use Rattle.px_parser.specs.declared.phrase_end.PhraseEnd.TheVariants.{NoMemory};
 
     ghost from_gives = { λ _ end. end ≡ NoMemory };
 
-    fn from(_error: AllocFailed<T>) -> ReadEnd {
-        ReadEnd::NoMemory
+    fn from(_error: AllocFailed<T>) -> PhraseEnd {
+        PhraseEnd::NoMemory
     }
 }

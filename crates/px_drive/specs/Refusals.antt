@@ -1,0 +1,39 @@
+-- Which end of a command a refusal of a layer is.
+use Rattle.px_lexer.specs.declared.scan.LexEnd.{LexEnd}
+use Rattle.px_lexer.specs.declared.scan.LexEnd.TheVariants as lexing
+use Rattle.px_parser.specs.declared.parse_end.ParseEnd.{ParseEnd}
+use Rattle.px_parser.specs.declared.parse_end.ParseEnd.TheVariants as parsing
+use Rattle.px_scope.specs.declared.ends.ScopeEnd.{ScopeEnd}
+use Rattle.px_scope.specs.declared.ends.ScopeEnd.TheVariants as scoping
+use Rattle.px_thin.specs.declared.end.ThinEnd.{ThinEnd}
+use Rattle.px_thin.specs.declared.end.ThinEnd.TheVariants as thinning
+use Rattle.px_replay.specs.declared.replay.ReplayEnd.{ReplayEnd}
+use Rattle.px_replay.specs.declared.replay.ReplayEnd.TheVariants as replaying
+use Rattle.px_drive.specs.declared.outcome.End.{End}
+use Rattle.px_drive.specs.declared.outcome.End.TheVariants.{Source, Rejected, NoMemory}
+use Rattle.px_drive.specs.declared.outcome.SourceFault.TheVariants.{Lex, Parse, Scope, Unbuilt}
+
+-- the end where a text has no tokens
+abbrev pub end_of_lexing : LexEnd → End
+end_of_lexing (lexing.Fault at) = Source (Lex at)
+end_of_lexing lexing.NoMemory = NoMemory
+
+-- the end where tokens have no tree
+abbrev pub end_of_parsing : ParseEnd → End
+end_of_parsing (parsing.Fault at) = Source (Parse at)
+end_of_parsing parsing.NoMemory = NoMemory
+
+-- the end where a tree has no numbers for its names
+abbrev pub end_of_scoping : ScopeEnd → End
+end_of_scoping (scoping.Fault kind at) = Source (Scope kind at)
+end_of_scoping scoping.NoMemory = NoMemory
+
+-- the end where a written program is not thin
+abbrev pub end_of_thinning : ThinEnd → End
+end_of_thinning thinning.NotThin = Source Unbuilt
+end_of_thinning thinning.NoMemory = NoMemory
+
+-- the end where a derivation is not accepted
+abbrev pub end_of_replaying : ReplayEnd → End
+end_of_replaying replaying.Rejected = Rejected
+end_of_replaying replaying.NoMemory = NoMemory

@@ -1,0 +1,97 @@
+//! Which end of a command a refusal of a layer is, so that a stage passes it on by `?`.
+
+ghost use Rattle.std.specs.Prelude.{◌≡◌};
+
+use crate::{End, SourceFault};
+use px_lexer::LexEnd;
+use px_parser::ParseEnd;
+use px_replay::ReplayEnd;
+use px_scope::ScopeEnd;
+use px_terms::NoMemory;
+use px_thin::ThinEnd;
+use px_world::WriteFault;
+
+impl From<NoMemory> for End {
+    ghost use Rattle.px_drive.specs.declared.outcome.End.TheVariants.{NoMemory};
+
+    ghost from_gives = { λ _ end. end ≡ NoMemory };
+
+    fn from(_refusal: NoMemory) -> End {
+        End::NoMemory
+    }
+}
+
+impl From<WriteFault> for End {
+    ghost use Rattle.px_drive.specs.declared.outcome.End.TheVariants.{WriteFault};
+
+    ghost from_gives = { λ _ end. end ≡ WriteFault };
+
+    fn from(_refusal: WriteFault) -> End {
+        End::WriteFault
+    }
+}
+
+impl From<LexEnd> for End {
+    ghost use Rattle.px_drive.specs.Refusals.{end_of_lexing};
+
+    ghost from_gives = { λ refusal end. end ≡ end_of_lexing refusal };
+
+    fn from(refusal: LexEnd) -> End {
+        match refusal {
+            LexEnd::Fault { at } => End::Source(SourceFault::Lex { at }),
+            LexEnd::NoMemory => End::NoMemory,
+        }
+    }
+}
+
+impl From<ParseEnd> for End {
+    ghost use Rattle.px_drive.specs.Refusals.{end_of_parsing};
+
+    ghost from_gives = { λ refusal end. end ≡ end_of_parsing refusal };
+
+    fn from(refusal: ParseEnd) -> End {
+        match refusal {
+            ParseEnd::Fault { at } => End::Source(SourceFault::Parse { at }),
+            ParseEnd::NoMemory => End::NoMemory,
+        }
+    }
+}
+
+impl From<ScopeEnd> for End {
+    ghost use Rattle.px_drive.specs.Refusals.{end_of_scoping};
+
+    ghost from_gives = { λ refusal end. end ≡ end_of_scoping refusal };
+
+    fn from(refusal: ScopeEnd) -> End {
+        match refusal {
+            ScopeEnd::Fault { kind, at } => End::Source(SourceFault::Scope { kind, at }),
+            ScopeEnd::NoMemory => End::NoMemory,
+        }
+    }
+}
+
+impl From<ThinEnd> for End {
+    ghost use Rattle.px_drive.specs.Refusals.{end_of_thinning};
+
+    ghost from_gives = { λ refusal end. end ≡ end_of_thinning refusal };
+
+    fn from(refusal: ThinEnd) -> End {
+        match refusal {
+            ThinEnd::NotThin => End::Source(SourceFault::Unbuilt),
+            ThinEnd::NoMemory => End::NoMemory,
+        }
+    }
+}
+
+impl From<ReplayEnd> for End {
+    ghost use Rattle.px_drive.specs.Refusals.{end_of_replaying};
+
+    ghost from_gives = { λ refusal end. end ≡ end_of_replaying refusal };
+
+    fn from(refusal: ReplayEnd) -> End {
+        match refusal {
+            ReplayEnd::Rejected => End::Rejected,
+            ReplayEnd::NoMemory => End::NoMemory,
+        }
+    }
+}
