@@ -1,0 +1,5 @@
+pub mod Lists
+pub mod Standings
+pub mod Parts
+pub mod Clearing
+pub mod ClearedParts

@@ -1,0 +1,9 @@
+//! Descent: that each recursion ends. A definition descends where its self-calls pass something smaller at positions
+//! that none of them raises; `check_descent` is Ok exactly where every definition does, and else names the first that
+//! does not. `Checked` keeps a program of which that is known, with all that the check of types promised.
+#![tactic(auto)]
+
+mod around;
+mod kept;
+mod standing;
+
