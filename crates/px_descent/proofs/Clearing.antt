@@ -21,7 +21,7 @@ kept_more first args i old new so_far keeps = record {
 }
   where
     here : IsTrue (get_or new i false) ↔ (IsTrue (get_or old i false) × Keeps args (first + i))
-    here = ( (λ yes. (sym (so_far.ahead i (omega arith)) ∙ yes, keeps)), (λ both. so_far.ahead i (omega arith) ∙ both.0) )
+    here = ((λ yes. (sym (so_far.ahead i (omega arith)) ∙ yes, keeps)), (λ both. so_far.ahead i (omega arith) ∙ both.0))
 
 -- a position that the call does not keep is cleared
 pub cleared_more : (first : ℕ) (args : List Standing) (i : ℕ) (old new : List Bool) → i < length new → Cleared first args i old new → ¬ Keeps args (first + i) → Cleared first args (i + 1) old (set new i false)
@@ -32,6 +32,7 @@ cleared_more first args i old new within so_far raised = record {
   where
     before : (k : ℕ) → k < i → IsTrue (get_or (set new i false) k false) ↔ (IsTrue (get_or old k false) × Keeps args (first + k))
     before k below = let other : k ≢ i = omega arith in rw (get_or-set_other new i k false false other) (so_far.done k below)
+
     here : IsTrue (get_or (set new i false) i false) ↔ (IsTrue (get_or old i false) × Keeps args (first + i))
     here = ((λ yes. absurd (false≢true (sym (get_or-set_same new i false false within) ∙ yes))), (λ both. absurd (raised both.1)))
 
@@ -45,9 +46,10 @@ cleared_all first args end old new is same all = record { left = λ i. cases i (
         let nothing : get_or new i false ≡ false = get_or_past new i false (omega arith) in
         ((λ yes. absurd (false≢true (sym nothing ∙ yes))), (λ both. absurd (false≢true (sym none ∙ both.0))))
     cases i (inl below) =
-        let test : IsTrue (get_or new i false) ↔ (IsTrue (get_or old i false) × Keeps args (first + i)) = all.done i below in
-        ( (λ yes. ((test.0 yes).0, All-cons (λ (a : List Standing). Keeps a (first + i)) args [] (test.0 yes).1 (All-nil (λ (a : List Standing). Keeps a (first + i)))))
-        , (λ both. test.1 (both.0, All-head (λ (a : List Standing). Keeps a (first + i)) args [] both.1)) )
+        let test : IsTrue (get_or new i false) ↔ (IsTrue (get_or old i false) × Keeps args (first + i)) = all.done i below in (
+          (λ yes. ((test.0 yes).0, All-cons (λ (a : List Standing). Keeps a (first + i)) args [] (test.0 yes).1 (All-nil (λ (a : List Standing). Keeps a (first + i))))),
+          (λ both. test.1 (both.0, All-head (λ (a : List Standing). Keeps a (first + i)) args [] both.1)),
+        )
 
 -- where there is no call, all positions stay
 pub clears_none : (first : ℕ) (kept : List Bool) → Clears first [] kept kept
@@ -62,8 +64,10 @@ clears_both first xs ys old mid new one two = record { left = λ i. (to i, from 
         let later = (two.left i).0 there in
         let earlier = (one.left i).0 later.0 in
         (earlier.0, All-append (λ (a : List Standing). Keeps a (first + i)) xs ys earlier.1 later.1)
+
     from : (i : ℕ) → IsTrue (get_or old i false) × All (λ (a : List Standing). Keeps a (first + i)) (xs ++ ys) → IsTrue (get_or new i false)
     from i both =
-        (two.left i).1
-        ( (one.left i).1 (both.0, front_all (λ (a : List Standing). Keeps a (first + i)) xs ys both.1)
-        , back_all (λ (a : List Standing). Keeps a (first + i)) xs ys both.1 )
+        (two.left i).1 (
+          (one.left i).1 (both.0, front_all (λ (a : List Standing). Keeps a (first + i)) xs ys both.1),
+          back_all (λ (a : List Standing). Keeps a (first + i)) xs ys both.1,
+        )

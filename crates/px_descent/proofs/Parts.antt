@@ -1,6 +1,6 @@
 -- The self-calls of a term, part by part: in its parts in order, and in the arms of a match.
-use Rattle.std.proofs.Common.{◌≡◌, ℕ, ◌+◌, ◌<◌, List, [], ◌∷◌, ◌++◌, map, length, get_or, take, replicate, refl, sym, ap, ◌∙◌, arith, append_assoc, add-zero}
-use Rattle.std.proofs.lemmas.List.{take_more, append-nil, map-append, length-map, length-take}
+use Rattle.std.proofs.Common.{◌≡◌, ℕ, ◌+◌, ◌<◌, List, [], ◌∷◌, ◌++◌, map, length, get_or, take, drop, replicate, refl, sym, ap, ◌∙◌, arith, append_assoc, add-zero}
+use Rattle.std.proofs.lemmas.List.{take_more, take-append-drop, append-nil, map-append, length-map, length-take}
 use Rattle.std.proofs.lemmas.Grind.{flat_map-append}
 use Rattle.px_terms.specs.declared.term.Term.{Term, out-Term}
 use Rattle.px_terms.specs.declared.term.Term.TheOpen.{Term-F}
@@ -23,7 +23,30 @@ arms_push P d k (first ∷ arms) arm on bound =
     ∙ ap (λ i. (first (replicate (field_count P d k) (under on) ++ bound)).calls ++ (calls_in_arms P d (k + 1) arms on bound ++ (arm (replicate (field_count P d i) (under on) ++ bound)).calls)) one
     ∙ sym (append_assoc (first (replicate (field_count P d k) (under on) ++ bound)).calls (calls_in_arms P d (k + 1) arms on bound) (arm (replicate (field_count P d (k + length (first ∷ arms))) (under on) ++ bound)).calls)
 
+-- the self-calls in the first of the arms, and then those in the others
+arms_split : (P : Program) (d k : ℕ) (arms others : List Seen) (on : Standing) (bound : List Standing) → calls_in_arms P d k (arms ++ others) on bound ≡ calls_in_arms P d k arms on bound ++ calls_in_arms P d (k + length arms) others on bound
+arms_split P d k [] others on bound = rw add-zero refl
+arms_split P d k (first ∷ arms) others on bound =
+    let one : (k + 1) + length arms ≡ k + length (first ∷ arms) = omega arith in
+    ap (λ calls. (first (replicate (field_count P d k) (under on) ++ bound)).calls ++ calls) (arms_split P d (k + 1) arms others on bound)
+    ∙ ap (λ i. (first (replicate (field_count P d k) (under on) ++ bound)).calls ++ (calls_in_arms P d (k + 1) arms on bound ++ calls_in_arms P d i others on bound)) one
+    ∙ sym (append_assoc (first (replicate (field_count P d k) (under on) ++ bound)).calls (calls_in_arms P d (k + 1) arms on bound) (calls_in_arms P d (k + length (first ∷ arms)) others on bound))
+
 module _ (P : Program) (n : ℕ) where
+  -- the self-calls in the first parts, and then those in the others
+  pub parts_split : (k : ℕ) (parts : List Term) (bound : List Standing) → calls_in (map (walk P n) parts) bound ≡ calls_in (map (walk P n) (take k parts)) bound ++ calls_in (map (walk P n) (drop k parts)) bound
+  parts_split k parts bound =
+      ap (λ ts. calls_in (map (walk P n) ts) bound) (sym (take-append-drop k parts))
+      ∙ ap (λ seen. calls_in seen bound) (map-append (walk P n) (take k parts) (drop k parts))
+      ∙ flat_map-append (λ (s : Seen). (s bound).calls) (map (walk P n) (take k parts)) (map (walk P n) (drop k parts))
+
+  -- so for arms
+  pub cases_split : (d k : ℕ) (arms : List Term) (on : Standing) (bound : List Standing) → calls_in_arms P d 0 (map (walk P n) arms) on bound ≡ calls_in_arms P d 0 (map (walk P n) (take k arms)) on bound ++ calls_in_arms P d (0 + length (map (walk P n) (take k arms))) (map (walk P n) (drop k arms)) on bound
+  cases_split d k arms on bound =
+      ap (λ ts. calls_in_arms P d 0 (map (walk P n) ts) on bound) (sym (take-append-drop k arms))
+      ∙ ap (λ seen. calls_in_arms P d 0 seen on bound) (map-append (walk P n) (take k arms) (drop k arms))
+      ∙ arms_split P d 0 (map (walk P n) (take k arms)) (map (walk P n) (drop k arms)) on bound
+
   -- the self-calls in the parts up to one and in this one are those in the parts up to the next
   pub parts_more : (parts : List Term) (i : ℕ) (part : Term) (bound : List Standing) → i < length parts → part ≡ get_or parts i part → calls_in (map (walk P n) (take (i + 1) parts)) bound ≡ calls_in (map (walk P n) (take i parts)) bound ++ (walk P n part bound).calls
   parts_more parts i part bound below is =

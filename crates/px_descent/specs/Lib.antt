@@ -1,2 +1,4 @@
 pub mod Around
 pub mod Kept
+pub mod Largest
+pub mod Searches

@@ -4,6 +4,9 @@
 #![tactic(auto)]
 
 mod around;
+mod end;
 mod kept;
 mod standing;
+mod stuck;
 
+pub use end::NoDescent;

@@ -22,16 +22,6 @@ impl Standing {
         }
     }
 
-    /// Whether it is below the parameter of this position.
-    pub(crate) fn is_below(self, position: usize) -> bool
-        ensures { IsTrue result ↔ (standing_of self ≡ below position) }
-    {
-        match self {
-            Standing::Below(own) => own as usize == position,
-            _ => false,
-        }
-    }
-
     /// Whether it is the parameter of this position, or below it.
     pub(crate) fn is_within(self, position: usize) -> bool
         ensures { IsTrue result ↔ ((standing_of self ≡ itself position) ⊎ (standing_of self ≡ below position)) }
