@@ -6,3 +6,5 @@ pub mod Clearing
 pub mod ClearedParts
 pub mod Passing
 pub mod PassedParts
+pub mod Deciding
+pub mod Ending

@@ -1,10 +1,10 @@
 -- Whether a call lowers a kept position, argument by argument.
-use Rattle.std.proofs.Common.{◌≡◌, ◌≢◌, ℕ, ◌+◌, ◌<◌, ◌≤◌, Bool, true, false, IsTrue, List, length, Option, Some, slice_get, eqb, eqb-true, refl, sym, ap, ◌∙◌, subst, ◌↔◌, arith, below_more}
+use Rattle.std.proofs.Common.{◌≡◌, ◌≢◌, ℕ, ◌+◌, ◌<◌, ◌≤◌, Bool, true, false, IsTrue, List, length, Some, slice_get, eqb, eqb-true, refl, sym, ap, ◌∙◌, subst, ◌↔◌, arith, below_more}
 use Rattle.std.proofs.lemmas.Bool.{false≢true}
 use Rattle.px_terms.specs.declared.term.Term.{Term}
 use Rattle.px_terms.specs.declared.program.Def as definition
 use Rattle.px_terms.specs.declared.program.Program.{Program}
-use Rattle.px_terms.specs.Descent.{Standing, itself, below, elsewhere, walk, IsKept, Lowers}
+use Rattle.px_terms.specs.Descent.{Standing, below, walk, IsKept, Lowers}
 use Rattle.px_descent.specs.declared.standing.Standing as read
 use Rattle.px_descent.specs.declared.standing.Standing.TheVariants.{Itself, Below, Elsewhere}
 use Rattle.px_descent.specs.Around.{standing_of}

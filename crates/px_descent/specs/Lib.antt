@@ -1,4 +1,6 @@
 pub mod Around
 pub mod Kept
 pub mod Largest
+pub mod Ends
 pub mod Searches
+pub mod Laws

@@ -1,13 +1,14 @@
 -- What the search for a self-call that lowers no kept position answers.
-use Rattle.std.specs.Prelude.{◌≡◌, ◌↔◌, ℕ, ◌+◌, ◌-◌, ◌^◌, ◌<◌, min, false, IsTrue, List, ◌∷◌, ◌++◌, length, get_or, All, Result, MatchResult}
-use Rattle.px_terms.specs.Descent.{Standing, IsKept}
+use Rattle.std.specs.Prelude.{◌≡◌, ℕ, ◌+◌, ◌-◌, ◌^◌, min, List, ◌∷◌, ◌++◌, length, All, Result, MatchResult}
+use Rattle.px_terms.specs.Descent.{Standing}
 use Rattle.px_descent.specs.declared.end.NoDescent.{NoDescent}
 use Rattle.px_descent.specs.declared.stuck.Search.{Search}
 use Rattle.px_descent.specs.Largest.{LowersKept}
+use Rattle.px_descent.specs.Ends.{TellsKept}
 
--- what is said of the definition's first positions is right
-pub record IsRight (s : Search) : Type 0 where
-  pub tells : (i : ℕ) → i < length s.kept.now → IsTrue (get_or s.kept.now i false) ↔ IsKept s.program.now s.def s.definition.now i
+-- what is told of the definition's first positions is right
+abbrev pub IsRight : Search → Type 0
+IsRight s = TellsKept s.program.now s.def s.definition.now s.kept.now
 
 -- the call lowers a kept position of the definition
 abbrev pub Lowered : Search → List Standing → Type 0

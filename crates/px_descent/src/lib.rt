@@ -4,9 +4,11 @@
 #![tactic(auto)]
 
 mod around;
+mod descent;
 mod end;
 mod kept;
 mod standing;
 mod stuck;
 
+pub use descent::check_descent;
 pub use end::NoDescent;
