@@ -4,11 +4,15 @@
 #![tactic(auto)]
 
 mod around;
+mod checked;
 mod descent;
 mod end;
 mod kept;
+mod laws;
 mod standing;
 mod stuck;
 
+pub use checked::Checked;
 pub use descent::check_descent;
 pub use end::NoDescent;
+pub use laws::{largest_decides, one_first_stuck, stuck_excludes_descent};
