@@ -1,3 +1,6 @@
 pub mod Written
 pub mod Faults
 pub mod Declarations
+pub mod Outcomes
+pub mod Outcome
+pub mod Laws

@@ -4,5 +4,7 @@
 #![tactic(auto)]
 
 mod ends;
+mod laws;
 
 pub use ends::{TypeEnd, TypeKind};
+pub use laws::{types_are_found, types_break_as_found};
