@@ -1,2 +1,3 @@
 pub mod Exact
 pub mod TypesExact
+pub mod Loops

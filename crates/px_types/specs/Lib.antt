@@ -3,4 +3,5 @@ pub mod Faults
 pub mod Declarations
 pub mod Outcomes
 pub mod Outcome
+pub mod Answers
 pub mod Laws
