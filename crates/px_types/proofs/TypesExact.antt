@@ -1,6 +1,6 @@
 -- Written types are found exactly as the rules say.
 use Rattle.std.proofs.Common.{◌≡◌, ℕ, suc, ◌+◌, ◌<◌, ◌≤◌, max, Bool, true, false, ◌&&◌, eqb, leb, List, [], ◌∷◌, length, map, Option, Some, None, Result, Ok, Err, refl, sym, ◌∙◌, ap, subst, Decides, arith}
-use Rattle.std.specs.Prelude.{sum, slice_get, nat_lt, if◌then◌else◌}
+use Rattle.std.specs.Prelude.{◌-◌, MatchOption, sum, slice_get, nat_lt, if◌then◌else◌}
 use Rattle.std.specs.Option.{option_map}
 use Rattle.std.specs.List.{All}
 use Rattle.std.proofs.lemmas.Bool.{leb-true, le-leb, ltb-true, lt-ltb}
@@ -50,6 +50,20 @@ raw_ty_size_is raw = fold_out-RawTy ℕ raw_ty_size_step raw
 
 raw_ty_depth_is : (raw : RawTy) → raw_ty_depth raw ≡ 1 + largest (map raw_ty_depth (out-RawTy raw).args)
 raw_ty_depth_is raw = fold_out-RawTy ℕ raw_ty_depth_step raw
+
+-- the room after a written type is that after its arguments, one level down and less its node
+pub raw_room : (raw : RawTy) (args : List RawTy) → args ≡ (out-RawTy raw).args → (nodes depth : ℕ) (r : Option ℕ) → (nodes ≡ 0 → ⊥) → (depth ≡ 0 → ⊥) → MatchOption r (¬ ((sum (map raw_ty_size args) ≤ nodes - 1) × (largest (map raw_ty_depth args) ≤ depth - 1))) (λ left. (left + sum (map raw_ty_size args) ≡ nodes - 1) × (largest (map raw_ty_depth args) ≤ depth - 1)) → MatchOption r (¬ ((raw_ty_size raw ≤ nodes) × (raw_ty_depth raw ≤ depth))) (λ left. (left + raw_ty_size raw ≡ nodes) × (raw_ty_depth raw ≤ depth))
+raw_room raw args same nodes depth r some deep h =
+    let size : raw_ty_size raw ≡ 1 + sum (map raw_ty_size args) = raw_ty_size_is raw ∙ ap (λ (xs : List RawTy). 1 + sum (map raw_ty_size xs)) (sym same) in
+    let levels : raw_ty_depth raw ≡ 1 + largest (map raw_ty_depth args) = raw_ty_depth_is raw ∙ ap (λ (xs : List RawTy). 1 + largest (map raw_ty_depth xs)) (sym same) in
+    go (sum (map raw_ty_size args)) (largest (map raw_ty_depth args)) (raw_ty_size raw) (raw_ty_depth raw) size levels r h
+  where
+    less : (s size most : ℕ) → size ≡ 1 + s → size ≤ most → s ≤ most - 1
+    less s size most e h = omega arith
+
+    go : (s l size levels : ℕ) → size ≡ 1 + s → levels ≡ 1 + l → (r : Option ℕ) → MatchOption r (¬ ((s ≤ nodes - 1) × (l ≤ depth - 1))) (λ left. (left + s ≡ nodes - 1) × (l ≤ depth - 1)) → MatchOption r (¬ ((size ≤ nodes) × (levels ≤ depth))) (λ left. (left + size ≡ nodes) × (levels ≤ depth))
+    go s l size levels e f None over = λ (h : (size ≤ nodes) × (levels ≤ depth)). over (less s size nodes e h.0, less l levels depth f h.1)
+    go s l size levels e f (Some left) h = (omega (arith, h.0, some), omega (arith, h.1, deep))
 
 mutual
   pub same_size : {raw : RawTy} {T : Ty} → IsTy raw T → raw_ty_size raw ≡ ty_size T

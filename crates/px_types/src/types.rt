@@ -4,7 +4,7 @@ ghost use Rattle.px_base.specs.Largest.{largest};
 ghost use Rattle.px_base.specs.declared.raw.RawTy.{out-RawTy};
 ghost use Rattle.px_types.specs.Answers.{Answers};
 ghost use Rattle.px_types.specs.Faults.{raw_ty_depth, raw_ty_size, ty_count};
-ghost use Rattle.px_types.specs.Outcome.{is_count, is_small_over, ty_found, tys_found};
+ghost use Rattle.px_types.specs.Outcome.{is_count, is_small_over, ty_found, ty_of, tys_found};
 ghost use Rattle.px_types.specs.Outcomes.{needs};
 
 use crate::ends::{TypeEnd, TypeKind};
@@ -34,11 +34,7 @@ pub fn type_ty(alloc: Global, program: &Program, tparams: u32, raw: &RawTy) -> R
     need(has_count(program, tparams, raw), TypeKind::Arity, raw.at)?;
     need(is_small(raw), TypeKind::Oversize, raw.at)?;
     let args = type_tys(alloc, program, tparams, &raw.args)?;
-    Ok(match raw.kind {
-        RawTyKind::Word => Ty::Word,
-        RawTyKind::Var(number) => Ty::Var(number),
-        RawTyKind::Con(datatype) => Ty::Con { datatype, args },
-    })
+    Ok(made_of(raw.kind, args))
 }
 
 /// The types of written ones, or their first fault. It takes memory.
@@ -56,6 +52,17 @@ pub fn type_tys(
         types.push(type_ty(alloc, program, tparams, raw)?)?;
     }
     Ok(types)
+}
+
+/// The type of this kind, with these arguments. It takes no memory.
+fn made_of(kind: RawTyKind, args: Items<Ty>) -> Ty
+    ensures { result ≡ ty_of kind args }
+{
+    match kind {
+        RawTyKind::Word => Ty::Word,
+        RawTyKind::Var(number) => Ty::Var(number),
+        RawTyKind::Con(datatype) => Ty::Con { datatype, args },
+    }
 }
 
 /// Whether the written type has as many arguments as it takes, where it names what is there. It takes no memory.
@@ -89,16 +96,16 @@ fn room_after(raw: &RawTy, nodes: u64, depth: u32) -> Option<u64>
     if nodes == 0 || depth == 0 {
         return None;
     }
-    room_after_each(&raw.args, nodes - 1, depth - 1)
+    room_after_each(raw.args.as_slice(), nodes - 1, depth - 1)
 }
 
 /// The same of several written types.
 #[cycle(room_after)]
-fn room_after_each(raws: &Items<RawTy>, nodes: u64, depth: u32) -> Option<u64>
+fn room_after_each(raws: &[RawTy], nodes: u64, depth: u32) -> Option<u64>
     ensures { MatchOption result (¬ ((sum (map raw_ty_size raws.now) ≤ nodes) × (largest (map raw_ty_depth raws.now) ≤ depth))) (λ left. (left + sum (map raw_ty_size raws.now) ≡ nodes) × (largest (map raw_ty_depth raws.now) ≤ depth)) }
 {
     let mut left = nodes;
-    for raw in raws.as_slice() {
+    for raw in raws {
         let Some(after) = room_after(raw, left, depth) else {
             return None;
         };

@@ -1,3 +1,5 @@
+use Rattle.px_types.proofs.Sameness.{decides_same_all}
+use Rattle.px_types.proofs.Known.{decides_passes}
 use Rattle.px_types.proofs.Exact.{breaks_of}
 use Rattle.px_types.proofs.TypesExact.{exact_types}
 use Rattle.px_types.proofs.laws.types_break_as_found.Goals as goal
