@@ -1,6 +1,6 @@
 -- What is called or passed: its signature and its counts, as tests and as the rules say.
 use Rattle.std.proofs.Common.{◌≡◌, ◌⊎◌, ℕ, ◌<◌, ◌≤◌, Bool, true, false, List, [], ◌∷◌, length, map, Option, Some, None, refl, sym, ◌∙◌, ap, subst, Decides, arith}
-use Rattle.std.specs.Prelude.{slice_get}
+use Rattle.std.specs.Prelude.{◌==◌, slice_get}
 use Rattle.std.specs.List.{All, list_all}
 use Rattle.std.specs.Option.{IsSomeAnd, option_map}
 use Rattle.std.proofs.lemmas.Bool.{false≢true, leb-true, le-leb}
@@ -125,6 +125,13 @@ pub decides_alike : (own : Signature) (wanted : FnType) → Decides (is_alike ow
 unfolding is_alike
 decides_alike own wanted = Decides-like _ (λ h. record { takes = h.0; params = h.1.0; result = h.1.1 }) (λ a. (a.takes, (a.params, a.result))) (Decides-and _ _ (decides_none own.takes) (Decides-and _ _ (decides_same_all own.params wanted.params) (decides_same own.result wanted.result)))
 
+-- how many a definition takes, and a function variable
+abbrev counts_at : definition.Def → Counts
+counts_at D = record { types = D.tparams; functions = length D.funs; values = length D.params }
+
+abbrev variable_counts : FnType → Counts
+variable_counts F = record { types = 0; functions = 0; values = length F.params }
+
 -- Signatures.
 module _ (E : Env) where
   -- as many types as what is called takes
@@ -135,8 +142,14 @@ module _ (E : Env) where
   unfolding signature_of
   function_of (Def n) types s count are e = go (slice_get E.program.defs n) refl count e
     where
-      go : (o : Option definition.Def) → slice_get E.program.defs n ≡ o → IsSomeAnd (option_map (λ (D : definition.Def). ◌≡◌ {A = Counts} (record { types = D.tparams; functions = length D.funs; values = length D.params }) (record { types = D.tparams; functions = length D.funs; values = length D.params })) o) (λ c. c) → ⊥
-      go o stands count = ?
+      at : definition.Def → Signature
+      at D = record { takes = map (fn_type_instance types) D.funs; params = tys_instance types D.params; result = ty_instance types D.result }
+
+      go : (o : Option definition.Def) → slice_get E.program.defs n ≡ o → IsSomeAnd (option_map (λ (D : definition.Def). counts_at D) o) (λ (c : Counts). c.types ≡ length types) → option_map at o ≡ Some s → IsFunction E.program E.context (record { head = Def n; types = types }) s.takes s.params s.result
+      go None stands count e = absurd count
+      go (Some D) stands count e =
+          let one : at D ≡ s = cc in
+          of_definition stands (sym count) are (sym (ap (λ (x : Signature). x.takes) one)) (sym (ap (λ (x : Signature). x.params) one)) (sym (ap (λ (x : Signature). x.result) one))
   function_of Wle types s count are e =
       let none : types ≡ [] = none_of_length types (sym count) in
       let one : record { takes = []; params = type.Word ∷ type.Word ∷ []; result = bool_type } ≡ s = cc in
@@ -145,7 +158,17 @@ module _ (E : Env) where
       let none : types ≡ [] = none_of_length types (sym count) in
       let one : record { takes = []; params = type.Word ∷ type.Word ∷ []; result = bool_type } ≡ s = cc in
       rw (none, ← one) (equal refl)
-  function_of (FnVar i) types s count are e = ?
+  function_of (FnVar i) types s count are e = go (slice_get E.context.funs i) refl count e
+    where
+      at : FnType → Signature
+      at F = record { takes = []; params = F.params; result = F.result }
+
+      go : (o : Option FnType) → slice_get E.context.funs i ≡ o → IsSomeAnd (option_map (λ (F : FnType). variable_counts F) o) (λ (c : Counts). c.types ≡ length types) → option_map at o ≡ Some s → IsFunction E.program E.context (record { head = FnVar i; types = types }) s.takes s.params s.result
+      go None stands count e = absurd count
+      go (Some F) stands count e =
+          let none : types ≡ [] = none_of_length types (sym count) in
+          let one : at F ≡ s = cc in
+          rw (none, ← one) (of_variable stands refl refl)
 
   pub function_is : {f : Fun} {takes : List FnType} {params : List Ty} {T : Ty} → IsFunction E.program E.context f takes params T → signature_of E f.head f.types ≡ Some (record { takes = takes; params = params; result = T })
   unfolding signature_of

@@ -68,12 +68,12 @@ any_among : {X : Type 0} (test : X → Bool) (P : X → Type 0) → ((x : X) →
 any_among test P d [] zero e = absurd (false≢true e)
 any_among test P d [] (suc most) e = absurd (false≢true e)
 any_among test P d (x ∷ xs) zero e = absurd (false≢true e)
-any_among {X} test P d (x ∷ xs) (suc most) e = go (test x) refl
+any_among {X} test P d (x ∷ xs) (suc most) e = go (test x) refl (any_among test P d xs most)
   where
-    go : (b : Bool) → test x ≡ b → Among P (x ∷ xs) (suc most)
-    go true t = record { number = 0; below = omega arith; item = x; stands = refl; holds = (d x).0 t }
-    go false t =
-        let rest : Among P xs most = any_among test P d xs most (rw t at e) in
+    go : (b : Bool) → test x ≡ b → (list_any test (take most xs) ≡ true → Among P xs most) → Among P (x ∷ xs) (suc most)
+    go true t others = record { number = 0; below = omega arith; item = x; stands = refl; holds = (d x).0 t }
+    go false t others =
+        let rest : Among P xs most = others (rw t at e) in
         let below : rest.number < most = rest.below in
         record { number = suc rest.number; below = omega arith; item = rest.item; stands = rest.stands; holds = rest.holds }
 
@@ -277,12 +277,12 @@ module _ (E : Env) (h : Head) (wanted : PropSet) where
   lacks_one : (props : List Prop) → list_all met_by props ≡ false → Lacking
   unfolding met_by
   lacks_one [] e = absurd (false≢true (sym e))
-  lacks_one (p ∷ props) e = go (has_prop wanted p) (is_implied (is_said E h) p) refl refl
+  lacks_one (p ∷ props) e = go (has_prop wanted p) (is_implied (is_said E h) p) refl refl (lacks_one props)
     where
-      go : (x y : Bool) → has_prop wanted p ≡ x → is_implied (is_said E h) p ≡ y → Lacking
-      go true true wants is = lacks_one props (rw (wants, is) at e)
-      go true false wants is = record { p = p; wants = wants; lacks = λ k. false≢true (sym is ∙ (decides_implied (is_said E h) (IsSaid E.program E.place E.context h) (decides_said E h) p).1 k) }
-      go false y wants is = lacks_one props (rw wants at e)
+      go : (x y : Bool) → has_prop wanted p ≡ x → is_implied (is_said E h) p ≡ y → (list_all met_by props ≡ false → Lacking) → Lacking
+      go true true wants is others = others (rw (wants, is) at e)
+      go true false wants is others = record { p = p; wants = wants; lacks = λ k. false≢true (sym is ∙ (decides_implied (is_said E h) (IsSaid E.program E.place E.context h) (decides_said E h) p).1 k) }
+      go false y wants is others = others (rw wants at e)
 
   pub lacking : has_wanted E h wanted ≡ false → Lacking
   unfolding has_wanted met_by

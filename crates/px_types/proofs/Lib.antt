@@ -5,3 +5,4 @@ pub mod RoomLemmas
 pub mod Sameness
 pub mod Stages
 pub mod Known
+pub mod Functions
