@@ -1,5 +1,5 @@
 -- When an outcome is exactly what a relation says, with its broken rule; and how such outcomes are joined.
-use Rattle.std.proofs.Common.{◌≡◌, ℕ, Bool, true, false, List, [], ◌∷◌, map, Option, Some, None, Result, Ok, Err, refl, sym, ◌∙◌, ap, subst, Decides}
+use Rattle.std.proofs.Common.{◌≡◌, ℕ, Bool, true, false, List, [], ◌∷◌, length, Option, Some, None, Result, Ok, Err, refl, sym, ◌∙◌, ap, subst, Decides, arith}
 use Rattle.std.proofs.lemmas.Bool.{false≢true}
 use Rattle.std.specs.Result.{MatchResult}
 use Rattle.std.specs.List.{All}
@@ -140,5 +140,41 @@ exact_each {X} {T} found Is Br (x ∷ xs) (one, all) = exact_as (exact_then one 
     br_to b (later y is (later ys are none_left)) = absurd none_left
 
     br_from : (b : Broken) → OneBreaks Is Br (x ∷ xs) b → Either (Is x) (Br x) (λ (y : T). Either (AllAre Is xs) (OneBreaks Is Br xs) (λ _ _. ⊥)) b
+    br_from b (here br) = first br
+    br_from b (behind {y = y} is br) = later y is (first br)
+
+-- what holds of each item, of the one at its place in the other list, and of the value there
+pub data AllTwo {X Y T : Type 0} (Is : X → Y → T → Type 0) : List X → List Y → List T → Type 0 where
+  none : AllTwo Is [] [] []
+  more : {x : X} {xs : List X} {z : Y} {zs : List Y} {y : T} {ys : List T} → Is x z y → AllTwo Is xs zs ys → AllTwo Is (x ∷ xs) (z ∷ zs) (y ∷ ys)
+
+-- the first broken rule of items with those at their places
+pub data OneOfTwo {X Y T : Type 0} (Is : X → Y → T → Type 0) (Br : X → Y → Broken → Type 0) : List X → List Y → Broken → Type 0 where
+  here : {x : X} {xs : List X} {z : Y} {zs : List Y} {b : Broken} → Br x z b → OneOfTwo Is Br (x ∷ xs) (z ∷ zs) b
+  behind : {x : X} {xs : List X} {z : Y} {zs : List Y} {y : T} {b : Broken} → Is x z y → OneOfTwo Is Br xs zs b → OneOfTwo Is Br (x ∷ xs) (z ∷ zs) b
+
+-- each item's outcome is exact, so what is found of all is, where the lists are equally long
+pub exact_each_two : {X Y T : Type 0} (found : X → Y → Result T Broken) (Is : X → Y → T → Type 0) (Br : X → Y → Broken → Type 0) (xs : List X) (zs : List Y) → length xs ≡ length zs → Every (λ (x : X). (z : Y) → Exact (found x z) (Is x z) (Br x z)) xs → Exact (each_two found xs zs) (AllTwo Is xs zs) (OneOfTwo Is Br xs zs)
+unfolding each_two
+exact_each_two {X} {Y} {T} found Is Br [] [] same all = record { says = none; ok = all_none; err = λ b h. elim h [ ] }
+  where
+    all_none : (ys : List T) → AllTwo Is [] [] ys → ◌≡◌ {A = Result (List T) Broken} (Ok []) (Ok ys)
+    all_none _ none = refl
+exact_each_two found Is Br [] (z ∷ zs) same all = absurd (omega arith)
+exact_each_two found Is Br (x ∷ xs) [] same all = absurd (omega arith)
+exact_each_two {X} {Y} {T} found Is Br (x ∷ xs) (z ∷ zs) same (one, all) = exact_as (exact_then (one z) (λ y is. exact_then (exact_each_two found Is Br xs zs (omega arith) all) (λ ys are. exact_ok (y ∷ ys)))) to from br_to br_from
+  where
+    to : (ws : List T) → Both (Is x z) (λ (y : T). Both (AllTwo Is xs zs) (λ (ys ws : List T). ws ≡ y ∷ ys)) ws → AllTwo Is (x ∷ xs) (z ∷ zs) ws
+    to ws both = subst (AllTwo Is (x ∷ xs) (z ∷ zs)) (sym both.after.after) (more both.is both.after.is)
+
+    from : (ws : List T) → AllTwo Is (x ∷ xs) (z ∷ zs) ws → Both (Is x z) (λ (y : T). Both (AllTwo Is xs zs) (λ (ys ws : List T). ws ≡ y ∷ ys)) ws
+    from _ (more {y = y} {ys = ys} is are) = record { x = y; is = is; after = record { x = ys; is = are; after = refl } }
+
+    br_to : (b : Broken) → Either (Is x z) (Br x z) (λ (y : T). Either (AllTwo Is xs zs) (OneOfTwo Is Br xs zs) (λ _ _. ⊥)) b → OneOfTwo Is Br (x ∷ xs) (z ∷ zs) b
+    br_to b (first br) = here br
+    br_to b (later y is (first br)) = behind is br
+    br_to b (later y is (later ys are none_left)) = absurd none_left
+
+    br_from : (b : Broken) → OneOfTwo Is Br (x ∷ xs) (z ∷ zs) b → Either (Is x z) (Br x z) (λ (y : T). Either (AllTwo Is xs zs) (OneOfTwo Is Br xs zs) (λ _ _. ⊥)) b
     br_from b (here br) = first br
     br_from b (behind {y = y} is br) = later y is (first br)

@@ -188,3 +188,19 @@ module _ (E : Env) where
   function_types (at_most result) = typing.none
   function_types (equal result) = typing.none
   function_types (of_variable stands params result) = typing.none
+
+  -- what takes types has a signature
+  pub no_signature : (h : Head) (n : ℕ) (types : List Ty) → TakesTypes h n → signature_of E h types ≡ None → ⊥
+  unfolding signature_of
+  no_signature (Def m) n types takes e = go (slice_get E.program.defs m) takes e
+    where
+      go : (o : Option definition.Def) → IsSomeAnd (option_map (λ (D : definition.Def). counts_at D) o) (λ (c : Counts). c.types ≡ n) → ◌≡◌ {A = Option Signature} (option_map (λ (D : definition.Def). record { takes = map (fn_type_instance types) D.funs; params = tys_instance types D.params; result = ty_instance types D.result }) o) None → ⊥
+      go None takes e = takes
+      go (Some D) takes e = absurd cc
+  no_signature Wle n types takes e = absurd cc
+  no_signature Weq n types takes e = absurd cc
+  no_signature (FnVar i) n types takes e = go (slice_get E.context.funs i) takes e
+    where
+      go : (o : Option FnType) → IsSomeAnd (option_map (λ (F : FnType). variable_counts F) o) (λ (c : Counts). c.types ≡ n) → ◌≡◌ {A = Option Signature} (option_map (λ (F : FnType). record { takes = []; params = F.params; result = F.result }) o) None → ⊥
+      go None takes e = takes
+      go (Some F) takes e = absurd cc

@@ -6,3 +6,4 @@ pub mod Sameness
 pub mod Stages
 pub mod Known
 pub mod Functions
+pub mod ArgumentsExact

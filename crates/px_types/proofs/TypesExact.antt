@@ -213,7 +213,7 @@ module _ (P : Program) (tparams : ℕ) where
   unfolding tys_found
   exact_tys raws all = exact_as (exact_each (ty_found P tparams) (IsRight P tparams) (BreaksTy P tparams) raws all) (λ types. all_right) (λ types right. right_all right.are right.written) (λ b. broken_tys) (λ b. tys_broken)
 
-  are_types : (types : List Ty) → All (IsWritten P tparams) types → AreTypes P tparams types
+  pub are_types : (types : List Ty) → All (IsWritten P tparams) types → AreTypes P tparams types
   are_types [] all = none
   are_types (T ∷ types) all = more (All-head (IsWritten P tparams) T types all).is_type (are_types types (All-tail (IsWritten P tparams) T types all))
 
