@@ -7,3 +7,4 @@ pub mod Stages
 pub mod Known
 pub mod Functions
 pub mod ArgumentsExact
+pub mod TermShapes

@@ -1,3 +1,4 @@
+use Rattle.px_types.proofs.TermShapes.{part_at}
 use Rattle.px_types.proofs.ArgumentsExact.{exact_argument}
 use Rattle.px_types.proofs.Functions.{decides_met}
 use Rattle.px_types.proofs.Sameness.{decides_same_all}
