@@ -84,7 +84,7 @@ module _ (E : Env) (placed : IsPlaced E.place) where
     rw (← found.is.head, function_counts E found.argument.function) (sym (same_length found.is.types)),
   )
 
-  written_of : (types : List Ty) → AreTypes E.program E.context.tparams types → All (IsMet E.place) types → All (IsWritten E.program E.context.tparams) types
+  pub written_of : (types : List Ty) → AreTypes E.program E.context.tparams types → All (IsMet E.place) types → All (IsWritten E.program E.context.tparams) types
   written_of [] are met = All-nil (IsWritten E.program E.context.tparams)
   written_of (T ∷ types) (typing.more is are) met = All-cons (IsWritten E.program E.context.tparams) T types (record { is_type = is; small = small_of E.place placed T (All-head (IsMet E.place) T types met) }) (written_of types are (All-tail (IsMet E.place) T types met))
 

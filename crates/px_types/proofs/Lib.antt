@@ -8,3 +8,5 @@ pub mod Known
 pub mod Functions
 pub mod ArgumentsExact
 pub mod TermShapes
+pub mod TermsExact
+pub mod LayersExact

@@ -151,13 +151,13 @@ same_length written.none = refl
 same_length (written.more is are) = ap (λ n. suc n) (same_length are)
 
 -- What a type that is a datatype is made of.
-record ConParts (P : Program) (tparams d : ℕ) (args : List Ty) : Type 0 where
-  D : DataDef
-  stands : slice_get P.datatypes d ≡ Some D
-  count : length args ≡ D.tparams
-  are : AreTypes P tparams args
+pub record ConParts (P : Program) (tparams d : ℕ) (args : List Ty) : Type 0 where
+  pub D : DataDef
+  pub stands : slice_get P.datatypes d ≡ Some D
+  pub count : length args ≡ D.tparams
+  pub are : AreTypes P tparams args
 
-con_parts : {P : Program} {tparams d : ℕ} {args : List Ty} → IsTypeLayer P tparams (Ty-F.Con d args) → ConParts P tparams d args
+pub con_parts : {P : Program} {tparams d : ℕ} {args : List Ty} → IsTypeLayer P tparams (Ty-F.Con d args) → ConParts P tparams d args
 con_parts (con {D = D} stands count are) = record { D = D; stands = stands; count = count; are = are }
 
 var_below : {P : Program} {tparams n : ℕ} → IsTypeLayer P tparams (Ty-F.Var n) → n < tparams

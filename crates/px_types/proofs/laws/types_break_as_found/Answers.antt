@@ -1,3 +1,5 @@
+use Rattle.px_types.proofs.LayersExact.{exact_free}
+use Rattle.px_types.proofs.TermsExact.{type_is_met}
 use Rattle.px_types.proofs.TermShapes.{part_at}
 use Rattle.px_types.proofs.ArgumentsExact.{exact_argument}
 use Rattle.px_types.proofs.Functions.{decides_met}
