@@ -13,6 +13,7 @@ mod path;
 mod places;
 mod program;
 mod putting;
+mod rooms;
 mod row;
 mod sameness;
 mod sequent;
@@ -41,6 +42,7 @@ pub use px_base::{
     RawEquation, RawFnType, RawFun, RawKind, RawLemma, RawProgram, RawProp, RawReplica, RawTerm,
     RawTy, RawTyKind, Text, limits,
 };
+pub use rooms::{instance_is_within, ty_is_within};
 pub use row::{Kind, Ref, Row, Side, Target};
 pub use sameness::{same_fun, same_funs, same_term, same_terms, same_ty, same_tys};
 pub use sequent::{Context, Frame, Present, Sequent};

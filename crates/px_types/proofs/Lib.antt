@@ -1,0 +1,12 @@
+pub mod Exact
+pub mod TypesExact
+pub mod Loops
+pub mod RoomLemmas
+pub mod Sameness
+pub mod Stages
+pub mod Known
+pub mod Functions
+pub mod ArgumentsExact
+pub mod TermShapes
+pub mod TermsExact
+pub mod LayersExact

@@ -205,6 +205,14 @@ pub data BreaksVariables (E : Env) : List ℕ → List Ty → Broken → Type 0 
   here : {at : ℕ} {vars : List ℕ} {T : Ty} {types : List Ty} {fault : Broken} → ¬ IsMet E.place T → fault ≡ breaks Oversize at → BreaksVariables E (at ∷ vars) (T ∷ types) fault
   later : {at : ℕ} {vars : List ℕ} {T : Ty} {types : List Ty} {fault : Broken} → IsMet E.place T → BreaksVariables E vars types fault → BreaksVariables E (at ∷ vars) (T ∷ types) fault
 
+-- The type is a datatype of the program.
+pub record IsDatatype (P : Program) (T : Ty) : Type 0 where
+  pub number : ℕ
+  pub types : List Ty
+  pub datatype : DataDef
+  pub stands : slice_get P.datatypes number ≡ Some datatype
+  pub same : T ≡ type.Con number types
+
 -- What the arms so far have shown: their constructors, and the type of the first body.
 pub record Shown : Type 0 where
   pub cons : List ℕ
@@ -239,8 +247,8 @@ mutual
     among_arguments : {bound : List Ty} {at : ℕ} {raw : RawFun} {f : Fun} {funs : List RawFun} {args : List RawTerm} {takes : List FnType} {params : List Ty} {T : Ty} {fault : Broken} → Begins E bound (RawKind-F.Call raw funs args) f.types → IsCalled E raw f takes params T → AreRightArguments E funs takes → BreaksParts E bound args params fault → Breaks E bound at (RawKind-F.Call raw funs args) fault
     call_size : {bound : List Ty} {at : ℕ} {raw : RawFun} {f : Fun} {funs : List RawFun} {args : List RawTerm} {takes : List FnType} {params : List Ty} {T : Ty} {fault : Broken} → Begins E bound (RawKind-F.Call raw funs args) f.types → IsCalled E raw f takes params T → AreRightArguments E funs takes → AreTyped E bound args params → ¬ IsMet E.place T → fault ≡ breaks Oversize at → Breaks E bound at (RawKind-F.Call raw funs args) fault
     in_scrutinee : {bound : List Ty} {at : ℕ} {on : RawTerm} {arms : List RawArm} {fault : Broken} → Breaks E bound on.at (out-RawKind on.kind) fault → Breaks E bound at (RawKind-F.Match on arms) fault
-    no_datatype : {bound : List Ty} {at : ℕ} {on : RawTerm} {t : Term} {U : Ty} {arms : List RawArm} {fault : Broken} → IsTyped E bound (out-RawKind on.kind) t U → ((d : ℕ) (types : List Ty) → U ≢ type.Con d types) → fault ≡ breaks Mismatch on.at → Breaks E bound at (RawKind-F.Match on arms) fault
-    among_arms : {bound : List Ty} {at d : ℕ} {types : List Ty} {on : RawTerm} {t : Term} {arms : List RawArm} {fault : Broken} → IsTyped E bound (out-RawKind on.kind) t (type.Con d types) → BreaksArms E bound at d types (record { cons = []; T = None }) arms fault → Breaks E bound at (RawKind-F.Match on arms) fault
+    no_datatype : {bound : List Ty} {at : ℕ} {on : RawTerm} {t : Term} {U : Ty} {arms : List RawArm} {fault : Broken} → IsTyped E bound (out-RawKind on.kind) t U → ¬ IsDatatype E.program U → fault ≡ breaks Mismatch on.at → Breaks E bound at (RawKind-F.Match on arms) fault
+    among_arms : {bound : List Ty} {at d : ℕ} {types : List Ty} {on : RawTerm} {t : Term} {arms : List RawArm} {D : DataDef} {fault : Broken} → IsTyped E bound (out-RawKind on.kind) t (type.Con d types) → slice_get E.program.datatypes d ≡ Some D → BreaksArms E bound at d types (record { cons = []; T = None }) arms fault → Breaks E bound at (RawKind-F.Match on arms) fault
 
   -- the first fault of parts, from left to right: the size of the type that a part should have, the part, and then its own type
   pub data BreaksParts (E : Env) : List Ty → List RawTerm → List Ty → Broken → Type 0 where

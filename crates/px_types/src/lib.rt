@@ -4,5 +4,11 @@
 #![tactic(auto)]
 
 mod ends;
+mod laws;
+mod typed;
+mod types;
 
 pub use ends::{TypeEnd, TypeKind};
+pub use laws::{types_are_found, types_break_as_found};
+pub use typed::Typed;
+pub use types::{type_ty, type_tys};
