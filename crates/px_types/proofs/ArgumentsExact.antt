@@ -123,8 +123,8 @@ module _ (E : Env) (placed : IsPlaced E.place) where
       exact_then (exact_needs _ LacksProperty raw.at (decides_wanted E raw.head wanted.props)) (λ _ known.
       exact_ok (record { head = raw.head; types = types })))))))))
       (λ f both.
-        let rest = both.after.after in
-        subst (IsRightFun E raw wanted) (sym rest.after.after.after.after.after) (argument_to raw wanted rest.x rest.after.x both.is both.after.is rest.is rest.after.is rest.after.after.after.is rest.after.after.after.after.is))
+      let rest = both.after.after in
+      subst (IsRightFun E raw wanted) (sym rest.after.after.after.after.after) (argument_to raw wanted rest.x rest.after.x both.is both.after.is rest.is rest.after.is rest.after.after.after.is rest.after.after.after.after.is))
       (λ f found. record {
         x = tt;
         is = argument_met wanted f found.argument;

@@ -389,9 +389,9 @@ module _ (E : Env) (open_ : IsOpen E) (bound : List Ty) (at : ℕ) where
         exact_then (exact_needs _ Oversize at (decides_met E.place s.result)) (λ _ met.
         exact_ok (record { term = term.Call (record { head = raw.head; types = types }) funs ts; ty = s.result })))))))))
         (λ found both.
-          let rest = both.after in
-          let parts = rest.after.after in
-          rw parts.after.after.after.after (call_typed rest.x parts.x parts.after.x parts.after.after.x both.is rest.is rest.after.is parts.is parts.after.is parts.after.after.is parts.after.after.after.is))
+        let rest = both.after in
+        let parts = rest.after.after in
+        rw parts.after.after.after.after (call_typed rest.x parts.x parts.after.x parts.after.after.x both.is rest.is rest.after.is parts.is parts.after.is parts.after.after.is parts.after.after.after.is))
         (λ found typed. let taken = call_taken raw raw_funs args found.term found.ty typed in record {
           x = tt;
           is = taken.counts;

@@ -264,9 +264,9 @@ module _ (P : Program) (tparams : ℕ) where
 
   exact_ty : (raw : RawTy) → Every (λ (arg : RawTy). Exact (ty_found P tparams arg) (IsRight P tparams arg) (BreaksTy P tparams arg)) (out-RawTy raw).args → Exact (ty_found P tparams raw) (IsRight P tparams raw) (BreaksTy P tparams raw)
   exact_ty raw all = exact_at (ty_found_is P tparams raw) (exact_as (exact_then (exact_needs _ Arity (out-RawTy raw).at (decides_count (ty_count P tparams (out-RawTy raw).kind) (length (out-RawTy raw).args))) (λ _ count. exact_then (exact_needs _ Oversize (out-RawTy raw).at (decides_small_raw raw)) (λ _ small. exact_then (exact_tys (out-RawTy raw).args all) (λ types right. exact_ok (ty_of (out-RawTy raw).kind types)))))
-    (λ T both. subst (IsRight P tparams raw) (sym both.after.after.after) (made raw both.after.after.x both.is both.after.is both.after.after.is _ refl))
-    (λ T right. let t = taken raw T right in record { x = tt; is = t.count; after = record { x = tt; is = t.small; after = record { x = t.types; is = t.right; after = t.same } } })
-    br_to br_from)
+      (λ T both. subst (IsRight P tparams raw) (sym both.after.after.after) (made raw both.after.after.x both.is both.after.is both.after.after.is _ refl))
+      (λ T right. let t = taken raw T right in record { x = tt; is = t.count; after = record { x = tt; is = t.small; after = record { x = t.types; is = t.right; after = t.same } } })
+      br_to br_from)
     where
       br_to : (b : Broken) → Either {S = Unit {0}} (λ _. HasTyCount P tparams raw) (λ b. ¬ HasTyCount P tparams raw × (b ≡ breaks Arity (out-RawTy raw).at)) (λ _. Either {S = Unit {0}} (λ _. IsSmallRaw raw) (λ b. ¬ IsSmallRaw raw × (b ≡ breaks Oversize (out-RawTy raw).at)) (λ _. Either (AreRight P tparams (out-RawTy raw).args) (BreaksTys P tparams (out-RawTy raw).args) (λ _ _. ⊥))) b → BreaksTy P tparams raw b
       br_to b (first h) = faults.count h.0 h.1
