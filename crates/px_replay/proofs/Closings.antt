@@ -15,10 +15,11 @@ use Rattle.px_terms.specs.Derivations.{Opens, Leads, goes_on, Tree, DerivesOblig
 use Rattle.px_terms.specs.Readable.{IsReadable}
 use Rattle.px_terms.specs.Spelling.{line_of, lines_of, rows_from, IsDerivationText}
 use Rattle.px_replay.specs.declared.opened.Open.{Open}
+use Rattle.px_soundness.specs.Laws.{OneClause}
 use Rattle.px_terms.specs.Numbered.{HasNumbers, HasNumberedVariables}
 use Rattle.px_replay.specs.Replays.{child_within, sequents_of, ReplaysRow, HasReplayed, ReplaysObligation}
 use Rattle.px_replay.proofs.ReplayLemmas.{lines-cons, pushed_sequents, top_sequent}
-use Rattle.px_replay.proofs.ClauseLemmas.{one_clause, found_one}
+use Rattle.px_replay.proofs.Lists.{found_one}
 
 -- The text begins with rows that derive all of these sequents, and then comes the rest.
 pub record Closes (P : Program) (n : ℕ) (sequents : List Sequent) (text rest : List ℕ) : Type 0 where
@@ -123,11 +124,15 @@ obligation_due P n o text rest found numbers law replays =
       };
     }
 
--- the rows are due at the sequent of the clause that the code made
-pub rows_due : (P : Program) (n : ℕ) (o : Declared) (made : Clause) (first : Sequent) (text rest : List ℕ) (due : ObligationDue P n o text rest) → IsDeclaredClause P o made → first ≡ first_sequent made (record { entries = [] }) → HasReplayed P n first [] due.later rest
-rows_due P n o made first text rest due says first_is =
-    let same : made ≡ due.clause = one_clause P o made due.clause says due.says in
-    let whole : first ≡ first_sequent due.clause (record { entries = [] }) = first_is ∙ ap (λ (c : Clause). first_sequent c (record { entries = [] })) same in
+-- the clause that the code made is the obligation's
+pub made_is_due : OneClause → (P : Program) (n : ℕ) (o : Declared) (made : Clause) (text rest : List ℕ) (due : ObligationDue P n o text rest) → slice_get P.declared n ≡ Some o → IsDeclaredClause P o made → made ≡ due.clause
+made_is_due law P n o made text rest due found says =
+    law P n made due.clause (record { declared = o; number = found; says = says }) (record { declared = o; number = found; says = due.says })
+
+-- the rows are due at the sequent of the clause that the code made, which is the obligation's
+pub rows_due : (P : Program) (n : ℕ) (o : Declared) (made : Clause) (first : Sequent) (text rest : List ℕ) (due : ObligationDue P n o text rest) → made ≡ due.clause → first ≡ first_sequent made (record { entries = [] }) → HasReplayed P n first [] due.later rest
+rows_due P n o made first text rest due one first_is =
+    let whole : first ≡ first_sequent due.clause (record { entries = [] }) = first_is ∙ ap (λ (c : Clause). first_sequent c (record { entries = [] })) one in
     subst (λ (s : Sequent). HasReplayed P n s [] due.later rest) (sym whole) due.replayed
 
 -- The rest of a derivation, from obligation n on.

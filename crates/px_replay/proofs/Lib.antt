@@ -1,4 +1,3 @@
-pub mod ClauseLemmas
 pub mod Closings
 pub mod Decimals
 pub mod Lists

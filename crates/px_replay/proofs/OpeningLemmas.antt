@@ -9,7 +9,7 @@ use Rattle.px_terms.specs.declared.term.Term.{Term}
 use Rattle.px_terms.specs.declared.term.Term.TheVariants as term
 use Rattle.px_terms.specs.Types.{tys_instance}
 use Rattle.px_terms.specs.Typing.{live}
-use Rattle.px_terms.specs.Clauses.{numbers_from}
+use Rattle.px_terms.specs.Types.{numbers_from}
 use Rattle.px_terms.specs.declared.clause.Equation.{Equation}
 use Rattle.px_terms.specs.declared.program.ConDef.{ConDef}
 use Rattle.px_terms.specs.declared.program.DataDef.{DataDef}
@@ -25,7 +25,7 @@ use Rattle.px_terms.specs.Steps.{Step}
 use Rattle.px_terms.specs.Derivations.{Opens, same, step, case, fresh_constructor, case_of, cases_from}
 use Rattle.px_replay.specs.Replays.{put_case, SidesAreOne, StepsSide}
 use Rattle.px_terms.specs.TreeEdits.{with_side}
-use Rattle.px_replay.proofs.ClauseLemmas.{found_one}
+use Rattle.px_replay.proofs.Lists.{found_one}
 use Rattle.px_replay.proofs.RowLemmas.{written}
 use Rattle.px_replay.proofs.StepLemmas.{one_step}
 

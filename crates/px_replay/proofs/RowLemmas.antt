@@ -1,8 +1,7 @@
 -- What the code of a row found opens the sequent.
-use Rattle.std.proofs.Common.{◌≡◌, ◌<◌, ◌≤◌, ◌+◌, ◌-◌, ℕ, suc, List, [], ◌∷◌, ◌++◌, length, take, drop, get_or, slice_get, slice_set, Option, Some, IfSome, sym, ap, subst, ◌∙◌, add-one, append_assoc, arith, All, Bool, IsTrue, ◌⊎◌, inl, inr, map, reverse}
+use Rattle.std.proofs.Common.{◌≡◌, ◌<◌, ◌+◌, ℕ, suc, List, [], ◌∷◌, ◌++◌, length, drop, get_or, slice_get, slice_set, Option, Some, IfSome, sym, ap, subst, ◌∙◌, add-one, append_assoc, All, Bool, IsTrue, ◌⊎◌, inl, inr, map, reverse}
 use Rattle.std.proofs.Math.Seq.{drop-cons}
-use Rattle.std.proofs.Math.ListN.{drop_of_length-le}
-use Rattle.std.proofs.lemmas.List.{take-append-drop, reverse-append}
+use Rattle.std.proofs.lemmas.List.{reverse-append}
 use Rattle.std.proofs.lemmas.List.Elements.{All-set, All-get_or}
 use Rattle.std.proofs.lemmas.Option.{slice_get_within, get_or_from_slice_get}
 use Rattle.px_terms.specs.declared.types.Ty.{Ty}
@@ -72,15 +71,3 @@ cases_push s v d args children place constructors c child all within is child_is
     append_assoc children (child ∷ []) (cases_from s v d args (place + 1) rest)
     ∙ (ap (λ (x : Sequent). children ++ x ∷ cases_from s v d args (place + 1) rest) child_is
     ∙ (ap (λ (cs : List ConDef). children ++ cases_from s v d args place cs) (sym split) ∙ so_far))
-
--- a list of at least two ends with its last two
-pub two_last : {A : Type 0} (xs : List A) (x y : A) → 2 ≤ length xs → x ≡ get_or xs (length xs - 2) x → y ≡ get_or xs (length xs - 1) y → xs ≡ take (length xs - 2) xs ++ x ∷ y ∷ []
-two_last {A} xs x y long x_is y_is =
-    let n = length xs - 2 in
-    let place : length xs - 1 ≡ suc n = omega arith in
-    let first : drop n xs ≡ get_or xs n x ∷ drop (suc n) xs = drop-cons xs n x (omega arith) in
-    let second : drop (suc n) xs ≡ get_or xs (suc n) y ∷ drop (suc (suc n)) xs = drop-cons xs (suc n) y (omega arith) in
-    let none : drop (suc (suc n)) xs ≡ [] = drop_of_length-le xs {i = suc (suc n)} (omega arith) in
-    let y_there : get_or xs (suc n) y ≡ y = ap (λ (k : ℕ). get_or xs k y) (sym place) ∙ sym y_is in
-    let ends : drop n xs ≡ x ∷ y ∷ [] = first ∙ (ap (λ (z : A). z ∷ drop (suc n) xs) (sym x_is) ∙ ap (λ (zs : List A). x ∷ zs) (second ∙ (ap (λ (z : A). z ∷ drop (suc (suc n)) xs) y_there ∙ ap (λ (zs : List A). y ∷ zs) none))) in
-    sym (take-append-drop n xs) ∙ ap (λ (zs : List A). take n xs ++ zs) ends

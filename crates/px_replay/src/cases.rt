@@ -8,7 +8,7 @@ ghost use Rattle.px_terms.specs.declared.row.Row.TheVariants.{CaseVar};
 ghost use Rattle.px_terms.specs.limits.TheConstants.{VARIABLES};
 ghost use Rattle.px_terms.specs.Types.{tys_instance};
 ghost use Rattle.px_terms.specs.Typing.{live};
-ghost use Rattle.px_terms.specs.Clauses.{numbers_from};
+ghost use Rattle.px_terms.specs.Types.{numbers_from};
 ghost use Rattle.px_terms.specs.Sequents.{IsWithinLimits, frame_put};
 ghost use Rattle.px_terms.specs.Derivations.{Opens, case_of, cases_from};
 ghost use Rattle.px_terms.specs.Numbered.{HasNumbers};

@@ -1,6 +1,7 @@
 //! The replay of a text: obligation by obligation, and row by row over a stack of open sequents.
 
 ghost use Rattle.std.specs.Prelude.{◌≡◌, ◌++◌, ◌∷◌, ◌↔◌, [], ℕ, List, IfOk, IsOkUnless, IsTrue, MatchResult, Some, length, slice_get};
+ghost use Rattle.px_props.specs.declared.clauses.ClauseEnd.TheVariants as clause_ends;
 ghost use Rattle.px_replay.specs.declared.lines.RowEnd.TheVariants as row_ends;
 ghost use Rattle.px_replay.specs.declared.replay.ReplayEnd.TheVariants as ends;
 ghost use Rattle.px_replay.specs.declared.opened.Open.{Open};
@@ -14,7 +15,8 @@ use crate::clauses::{clause_of, open_obligation};
 use crate::lines::{RowEnd, read_row};
 use crate::opened::Open;
 use crate::rows::open_sequent;
-use px_soundness::{derivations_are_sound, one_opening, stack_is_tree};
+use px_props::ClauseEnd;
+use px_soundness::{derivations_are_sound, one_clause, one_opening, stack_is_tree};
 use px_terms::{Declared, NoMemory, Program, Row};
 use sqlite_items::Items;
 use std::alloc::{AllocError, Global};
@@ -41,6 +43,17 @@ impl From<AllocError> for ReplayEnd {
 
     fn from(_error: AllocError) -> ReplayEnd {
         ReplayEnd::NoMemory
+    }
+}
+
+impl From<ClauseEnd> for ReplayEnd {
+    ghost from_gives = { λ clause_end end. clause_end ≡ clause_ends.NoMemory → end ≡ ends.NoMemory };
+
+    fn from(end: ClauseEnd) -> ReplayEnd {
+        match end {
+            ClauseEnd::Shape => ReplayEnd::Rejected,
+            ClauseEnd::NoMemory => ReplayEnd::NoMemory,
+        }
     }
 }
 
@@ -101,6 +114,7 @@ fn replay_obligation<'a>(
     ensures only { HasNumbers program.now → (rest : List ℕ) → ReplaysObligation program.now number text.now rest → MatchResult result (λ found. found.now ≡ rest) (λ end. end ≡ ReplayEnd.NoMemory) }
 {
     stack_is_tree();
+    one_clause();
     let first = open_obligation(alloc, clause_of(alloc, program, declared)?)?;
     let rows = after_header(alloc, number, text)?;
     replay_tree(alloc, program, number, Open::first(first), rows)

@@ -1,6 +1,6 @@
 use Rattle.std.proofs.Common.{◌≡◌, ℕ, map}
 use Rattle.px_terms.specs.declared.term.Term.TheVariants as terms
-use Rattle.px_terms.specs.Clauses.{numbers_from}
+use Rattle.px_terms.specs.Types.{numbers_from}
 use Rattle.px_replay.proofs.cases.on_fresh_variables.Given as goal
 
 abbrev pub invariant-loop-place : goal.invariant-loop-place

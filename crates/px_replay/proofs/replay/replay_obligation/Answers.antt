@@ -3,8 +3,7 @@ use Rattle.std.proofs.lemmas.Result.{IfOk-weaker}
 use Rattle.px_terms.specs.declared.clause.Clause.{Clause}
 use Rattle.px_replay.specs.Replays.{HasReplayed}
 use Rattle.px_replay.proofs.ReplayLemmas.{replayed_obligation}
-use Rattle.px_replay.proofs.ClauseLemmas.{one_clause}
-use Rattle.px_replay.proofs.Closings.{obligation_due, rows_due}
+use Rattle.px_replay.proofs.Closings.{obligation_due, made_is_due, rows_due}
 use Rattle.px_replay.proofs.Results.{passed_on}
 use Rattle.px_replay.proofs.replay.replay_obligation.Goals as goal
 
@@ -15,7 +14,8 @@ pub returns-clause-only : goal.returns-clause-only
 returns-clause-only c = λ numbers rest replays.
     let due = obligation_due c.args.program.now c.args.number c.args.declared c.args.text.now rest c.requires numbers (λ s rows. c.stack_is_tree.ensures c.args.program.now c.args.number s rows) replays in
     let at : c.in_ok-rows.rows.now ≡ due.later = c.in_ok-rows.ensures.only due.later due.header in
-    let replayed = rows_due c.args.program.now c.args.number c.args.declared c.in_ok-clause_of.field-0 c.first.result.sequent c.args.text.now rest due c.in_ok-clause_of.ensures.clause (c.first.ensures.sequent ∙ c.in_ok-first.ensures.first) in
+    let one : c.in_ok-clause_of.field-0 ≡ due.clause = made_is_due c.one_clause.ensures c.args.program.now c.args.number c.args.declared c.in_ok-clause_of.field-0 c.args.text.now rest due c.requires c.in_ok-clause_of.ensures.clause in
+    let replayed = rows_due c.args.program.now c.args.number c.args.declared c.in_ok-clause_of.field-0 c.first.result.sequent c.args.text.now rest due one (c.first.ensures.sequent ∙ c.in_ok-first.ensures.first) in
     c.replay_tree.ensures.only numbers rest (subst (λ (text : List ℕ). HasReplayed c.args.program.now c.args.number c.first.result.sequent [] text rest) (sym at) replayed)
 
 pub returns-in_err-clause_of-clause-only : goal.returns-in_err-clause_of-clause-only
@@ -27,7 +27,7 @@ returns-in_err-clause_of-clause-only c = λ numbers rest replays.
 pub returns-in_err-first-clause-only : goal.returns-in_err-first-clause-only
 returns-in_err-first-clause-only c = λ numbers rest replays.
     let due = obligation_due c.args.program.now c.args.number c.args.declared c.args.text.now rest c.requires numbers (λ s rows. c.stack_is_tree.ensures c.args.program.now c.args.number s rows) replays in
-    let one : c.in_ok-clause_of.field-0 ≡ due.clause = one_clause c.args.program.now c.args.declared c.in_ok-clause_of.field-0 due.clause c.in_ok-clause_of.ensures.clause due.says in
+    let one : c.in_ok-clause_of.field-0 ≡ due.clause = made_is_due c.one_clause.ensures c.args.program.now c.args.number c.args.declared c.in_ok-clause_of.field-0 c.args.text.now rest due c.requires c.in_ok-clause_of.ensures.clause in
     let count : length c.in_ok-clause_of.field-0.vars ≡ length due.clause.vars = ap (λ (made : Clause). length made.vars) one in
     let why = c.in_err-first.ensures.only (omega (arith, count, due.numbered.vars)) in
     passed_on c.from_residual-in_err-first.result _ _ _ c.from_residual-in_err-first.ensures (λ e same. same ∙ why)

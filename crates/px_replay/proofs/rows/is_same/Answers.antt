@@ -1,7 +1,7 @@
 use Rattle.std.proofs.Common.{◌≡◌, ap, sym, ◌∙◌, slice_get, List, Some}
 use Rattle.px_terms.specs.declared.clause.Equation.{Equation}
 use Rattle.px_replay.specs.Replays.{SidesAreOne}
-use Rattle.px_replay.proofs.ClauseLemmas.{found_one}
+use Rattle.px_replay.proofs.Lists.{found_one}
 use Rattle.px_replay.proofs.rows.is_same.Goals as goal
 
 pub returns-in-Some : goal.returns-in-Some
