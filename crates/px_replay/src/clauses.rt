@@ -72,13 +72,7 @@ fn property_clause(
         // A clause of 2^32 variables and more is not made.
         return Err(ReplayEnd::NoMemory);
     }
-    Ok(px_props::clause_of(
-        alloc,
-        program,
-        Head::Def(number),
-        &[],
-        prop,
-    )?)
+    Ok(px_props::clause_of(alloc, program, Head::Def(number), &[], prop)?)
 }
 
 /// The definition takes no more than words of 32 bits count, or there is none.
