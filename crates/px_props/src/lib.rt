@@ -8,6 +8,8 @@ mod functions;
 mod sets;
 mod table;
 mod terms;
+#[cfg(test)]
+mod tests;
 
 pub use clauses::{ClauseEnd, clause_of, fits};
 pub use sets::{at_most_properties, equal_properties, has, implied, with};

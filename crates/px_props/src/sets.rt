@@ -76,18 +76,18 @@ fn with_if(set: PropSet, follows: bool, prop: Prop) -> PropSet
 pub fn at_most_properties() -> PropSet
     ensures { IsSetOf result HasAtMost }
 {
-    with(
-        with(with(with(NONE, Prop::Refl), Prop::Antisym), Prop::Trans),
-        Prop::Conn,
-    )
+    let refl = with(NONE, Prop::Refl);
+    let antisym = with(refl, Prop::Antisym);
+    let trans = with(antisym, Prop::Trans);
+    with(trans, Prop::Conn)
 }
 
 /// The properties of `weq`, which says whether two words are equal. It takes no memory.
 pub fn equal_properties() -> PropSet
     ensures { IsSetOf result HasEqual }
 {
-    with(
-        with(with(with(NONE, Prop::Refl), Prop::Sym), Prop::Antisym),
-        Prop::Trans,
-    )
+    let refl = with(NONE, Prop::Refl);
+    let sym = with(refl, Prop::Sym);
+    let antisym = with(sym, Prop::Antisym);
+    with(antisym, Prop::Trans)
 }
