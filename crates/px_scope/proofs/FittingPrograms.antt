@@ -425,9 +425,9 @@ fitting_program surface P size within filled numbering =
     let small : items_size surface.items < 2 ^ 32 = omega arith in
     let ordered = all_ordered surface.items numbering.numbered agrees_first numbering.lawful within filled small in
     let counted = all_counted numbering.numbered in
-    let items : IsSmall surface.items = small_surface surface size filled in
+    let short_text : IsSmall surface.items = small_surface surface size filled in
     record {
-      short = short_program surface.items P items.few numbering.numbered;
+      short = short_program surface.items P short_text.few numbering.numbered;
       bool = (all_extend numbering.numbered).datatypes 0 raw_bool refl;
       order = subst (AreInOrder P bool_alone) (sym ordered.order) ordered.fits;
       properties = all_once surface.items numbering.numbered agrees_first first_claimed numbering.lawful;

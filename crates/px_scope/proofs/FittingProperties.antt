@@ -26,7 +26,7 @@ use Rattle.px_scope.specs.Standing.{meaning_of, built_in}
 use Rattle.px_scope.specs.Names.{number_of}
 use Rattle.px_scope.specs.Rules.{new_lower_fault, claim_fault}
 use Rattle.px_scope.specs.Uses.{first_broken, type_uses, properties_uses, Data, expr_uses}
-use Rattle.px_scope.specs.ItemUses.{head_uses, claimed_by, item_uses}
+use Rattle.px_scope.specs.ItemUses.{heading_uses, claimed_by, item_uses}
 use Rattle.px_scope.specs.Declaring.{props_of, claimed_of, with_definition, with_claims_of, type_locals, body_locals, after}
 use Rattle.px_scope.specs.Programs.{IsNext, IsDefinition, IsClaim, start}
 use Rattle.px_scope.proofs.FineParts.{fine_front, fine_back, after_first}
@@ -114,7 +114,7 @@ module _ (text : List Item) (G : Globals) (P : RawProgram) (agrees : Agrees G P)
   definition_claimed : (d : SDef) (raw : RawDef) → IsDefinition G d raw → first_broken (item_uses text G (items.Definition d)) ≡ None →
       AreClaimed (after G (items.Definition d)) (record P { defs = P.defs ++ raw ∷ [] })
   definition_claimed d raw is fine =
-      let head = head_uses text G d.tparams d.params in
+      let head = heading_uses text G d.tparams d.params in
       let result = type_uses text G (type_locals d.tparams) d.result in
       let props = properties_uses [] d.props in
       let body = expr_uses text (with_definition G d) d.body Data (body_locals (length G.claimed) d) in
