@@ -11,6 +11,8 @@ mod kept;
 mod laws;
 mod standing;
 mod stuck;
+#[cfg(test)]
+mod tests;
 
 pub use checked::Checked;
 pub use descent::check_descent;
