@@ -1,7 +1,7 @@
 //! Whether every definition descends, and which is the first that does not.
 
-ghost use Rattle.std.specs.Prelude.{◌↔◌, ℕ, ◌<◌, ◌≤◌, Bool, false, IsTrue, length, get_or, IsOk, IfErr, OnOk};
-ghost use Rattle.px_terms.specs.Descent.{AllDescend, IsKept};
+ghost use Rattle.std.specs.Prelude.{◌≤◌, length, IsOk, IfErr, OnOk};
+ghost use Rattle.px_terms.specs.Descent.{AllDescend};
 ghost use Rattle.px_descent.specs.Largest.{LargestServes};
 ghost use Rattle.px_descent.specs.Ends.{TellsKept, NamesFirst, NamesFirstIn};
 

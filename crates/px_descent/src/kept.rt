@@ -1,13 +1,14 @@
 //! The first walk of a body: which positions every self-call keeps.
 
-ghost use Rattle.std.specs.Prelude.{◌≡◌, ◌↔◌, ℕ, IsTrue, List, [], ◌∷◌, map, MatchOption, OnSome, ◌<◌, ◌^◌};
+ghost use Rattle.std.specs.Prelude.{◌↔◌, ℕ, IsTrue, [], ◌∷◌, map};
 ghost use Rattle.px_terms.specs.declared.program.Program.{Program as AnyProgram};
-ghost use Rattle.px_terms.specs.Descent.{Standing as AnyStanding, calls_in, Keeps};
+ghost use Rattle.px_terms.specs.Descent.{calls_in, Keeps};
 ghost use Rattle.px_descent.specs.Around.{bound_of};
 ghost use Rattle.px_descent.specs.Kept.{stands_in, own_call, walked, arm_calls, Clears};
 
 use crate::around::{Around, Matched, arm_of, standing};
-use px_terms::{Head, Program, Term};
+use crate::calls::own_arguments;
+use px_terms::{Program, Term};
 use sqlite_items::at;
 
 /// Positions of a definition, from `first` on.
@@ -16,23 +17,6 @@ pub(crate) struct Positions<'a> {
     pub(crate) program: &'a Program,
     pub(crate) def: usize,
     pub(crate) first: u32,
-}
-
-/// The arguments of the term, where it is a call of this definition.
-pub(crate) fn own_arguments<'a>(t: &'a Term, def: usize) -> Option<&'a [Term]>
-    ensures is { (P : AnyProgram) (bound : List AnyStanding) → MatchOption result (own_call P def t.now bound ≡ []) (λ args. own_call P def t.now bound ≡ stands_in P def args.now bound ∷ []) }
-    ensures number { OnSome result (def < 2 ^ 32) }
-{
-    let Term::Call { fun, args, .. } = t else {
-        return None;
-    };
-    let Head::Def(number) = fun.head else {
-        return None;
-    };
-    if number as usize != def {
-        return None;
-    }
-    Some(args.as_slice())
 }
 
 /// Whether a call with these arguments passes at this position its parameter, or what is below it.

@@ -7,8 +7,9 @@ ghost use Rattle.px_descent.specs.Kept.{stands_in, own_call, arm_calls};
 ghost use Rattle.px_descent.specs.Searches.{IsRight, IsKeptIn, Lowered, searched, own_calls, Searches};
 
 use crate::around::{Around, Matched, arm_of, standing};
+use crate::calls::own_arguments;
 use crate::end::NoDescent;
-use crate::kept::{Positions, clear_raised, own_arguments};
+use crate::kept::{Positions, clear_raised};
 use crate::standing::Standing;
 use px_terms::{Def, Program, Term};
 use sqlite_items::at;
