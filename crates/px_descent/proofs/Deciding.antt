@@ -32,7 +32,8 @@ module _ (P : Program) (n : ℕ) (D : definition.Def) where
         kept = All-cons (IsKept P n D) one.position rest.positions one.kept rest.kept;
         lowers =
             All-cons (LowersOne (one.position ∷ rest.positions)) args calls (0, one.position, refl, one.lowered)
-            (All-weaker (LowersOne rest.positions) (LowersOne (one.position ∷ rest.positions)) (λ other found. (suc found.0, found.1, found.2, found.3)) calls rest.lowers);
+            (All-weaker (LowersOne rest.positions) (LowersOne (one.position ∷ rest.positions))
+            (λ other found. (suc found.0, found.1, found.2, found.3)) calls rest.lowers);
       }
 
   -- where the largest set serves, some set does
@@ -56,7 +57,8 @@ module _ (P : Program) (n : ℕ) (D : definition.Def) where
         position = found.1;
         kept = record {
           within = all_at (λ p. p < length D.params) descends.positions found.0 found.1 descends.within found.2;
-          kept = λ j e inside. all_at (Keeps (get_or (self_calls P n D) j e)) descends.positions found.0 found.1 (descends.falls j e inside).never_raised found.2;
+          kept = λ j e inside. all_at (Keeps (get_or (self_calls P n D) j e)) descends.positions found.0 found.1
+              (descends.falls j e inside).never_raised found.2;
         };
         lowered = found.3;
       }

@@ -35,7 +35,8 @@ in_front front back i x below at =
     slice_get-get_or front i x below ∙ ap Some (sym (get_or_append_left front back x i below) ∙ get_or_from_slice_get (front ++ back) i x x at)
 
 -- what the search names is the first self-call of the definition that is stuck
-pub names_first : (s : Search) (end : NoDescent) → NamesStuck s (self_calls s.program.now s.def s.definition.now) 0 end → NamesFirstIn s.program.now s.def s.definition.now end
+pub names_first : (s : Search) (end : NoDescent) → NamesStuck s (self_calls s.program.now s.def s.definition.now) 0 end →
+    NamesFirstIn s.program.now s.def s.definition.now end
 names_first s end named = record {
   call = length named.front;
   stuck = record {
@@ -50,7 +51,8 @@ names_first s end named = record {
   where
     before : (c : ℕ) → c < length named.front → ¬ IsStuck s.program.now s.def s.definition.now c
     before c below stuck =
-        let at : slice_get named.front c ≡ Some stuck.args = in_front named.front (named.args ∷ named.back) c stuck.args below (ap (λ calls. slice_get calls c) (sym named.parts) ∙ stuck.stands) in
+        let at : slice_get named.front c ≡ Some stuck.args =
+        in_front named.front (named.args ∷ named.back) c stuck.args below (ap (λ calls. slice_get calls c) (sym named.parts) ∙ stuck.stands) in
         let found : Lowered s stuck.args = all_at (Lowered s) named.front c stuck.args named.lowered at in
         stuck.stuck found.position found.kept found.lowered
 
@@ -59,7 +61,8 @@ abbrev pub DescendBefore : Program → ℕ → Type 0
 DescendBefore P n = (m : ℕ) (E : definition.Def) → m < n → slice_get P.defs m ≡ Some E → Descends P m E
 
 -- one definition more
-pub descend_more : (P : Program) (n : ℕ) (D : definition.Def) → slice_get P.defs n ≡ Some D → DescendBefore P n → Descends P n D → DescendBefore P (n + 1)
+pub descend_more : (P : Program) (n : ℕ) (D : definition.Def) → slice_get P.defs n ≡ Some D → DescendBefore P n → Descends P n D →
+    DescendBefore P (n + 1)
 descend_more P n D is so_far here m E below at = cases (cases_lt m n)
   where
     cases : (m < n) ⊎ (n ≤ m) → Descends P m E
@@ -71,10 +74,12 @@ descend_more P n D is so_far here m E below at = cases (cases_lt m n)
 
 -- all of them
 pub descend_all : (P : Program) (n : ℕ) → length P.defs ≤ n → DescendBefore P n → AllDescend P
-descend_all P n past so_far = record { each = λ m E at. so_far m E (let within : m < length P.defs = slice_get_within P.defs m E at in omega arith) at }
+descend_all P n past so_far = record
+    { each = λ m E at. so_far m E (let within : m < length P.defs = slice_get_within P.defs m E at in omega arith) at }
 
 -- the first self-call that is stuck in this definition is the first of the program
-pub first_named : (P : Program) (n : ℕ) (D : definition.Def) (end : NoDescent) → slice_get P.defs n ≡ Some D → DescendBefore P n → NamesFirstIn P n D end → NamesFirst P end
+pub first_named : (P : Program) (n : ℕ) (D : definition.Def) (end : NoDescent) → slice_get P.defs n ≡ Some D → DescendBefore P n →
+    NamesFirstIn P n D end → NamesFirst P end
 first_named P n D end is so_far named = record {
   call = named.call;
   first = subst (λ k. IsFirstStuck P k named.call) (sym named.def) (record {
@@ -88,7 +93,8 @@ first_named P n D end is so_far named = record {
 }
 
 -- an end that is passed on
-pub first_passed : {A : Type 0} (P : Program) (r : Result A NoDescent) (end : NoDescent) → IsErrAnd r (λ e. e ≡ end) → NamesFirst P end → IfErr r (NamesFirst P)
+pub first_passed : {A : Type 0} (P : Program) (r : Result A NoDescent) (end : NoDescent) → IsErrAnd r (λ e. e ≡ end) → NamesFirst P end →
+    IfErr r (NamesFirst P)
 first_passed P (Ok x) end is named = absurd is
 first_passed P (Err e) end is named = subst (NamesFirst P) (sym is) named
 
@@ -97,6 +103,7 @@ pub named_excludes : (P : Program) (end : NoDescent) → NamesFirst P end → ¬
 named_excludes P end named = stuck_excludes P end.def named.call named.first
 
 -- an end of one definition that is passed on
-pub named_passed : {A : Type 0} (P : Program) (n : ℕ) (D : definition.Def) (r : Result A NoDescent) (end : NoDescent) → IsErrAnd r (λ e. e ≡ end) → NamesFirstIn P n D end → IfErr r (NamesFirstIn P n D)
+pub named_passed : {A : Type 0} (P : Program) (n : ℕ) (D : definition.Def) (r : Result A NoDescent) (end : NoDescent) → IsErrAnd r (λ e. e ≡ end) →
+    NamesFirstIn P n D end → IfErr r (NamesFirstIn P n D)
 named_passed P n D (Ok x) end is named = absurd is
 named_passed P n D (Err e) end is named = subst (NamesFirstIn P n D) (sym is) named

@@ -13,11 +13,13 @@ module _ (s : Search) where
   none_passed before fits = record { each = All-nil (Lowered s); count = omega arith }
 
   -- one call that lowers a kept position
-  pub one_passed : (args : List Standing) (before after : ℕ) → Lowered s args → after ≡ min (before + 1) (2 ^ 32 - 1) → AllLowered s (args ∷ []) before after
+  pub one_passed : (args : List Standing) (before after : ℕ) → Lowered s args → after ≡ min (before + 1) (2 ^ 32 - 1) →
+      AllLowered s (args ∷ []) before after
   one_passed args before after lowers is = record { each = All-cons (Lowered s) args [] lowers (All-nil (Lowered s)); count = is }
 
   -- one call that lowers none
-  pub one_stuck : (args : List Standing) (before : ℕ) (end : NoDescent) → before < 2 ^ 32 → ¬ Lowered s args → end.def ≡ s.def → end.call ≡ before → NamesStuck s (args ∷ []) before end
+  pub one_stuck : (args : List Standing) (before : ℕ) (end : NoDescent) → before < 2 ^ 32 → ¬ Lowered s args → end.def ≡ s.def → end.call ≡ before →
+      NamesStuck s (args ∷ []) before end
   one_stuck args before end fits stuck def call = record {
     front = [];
     args = args;
@@ -69,6 +71,7 @@ module _ (s : Search) where
     goes_on mid (Err end) one two = stuck_back mid end one two
 
   -- an end that is passed on
-  pub passed_on : (calls : List (List Standing)) (before : ℕ) (r : Result ℕ NoDescent) (end : NoDescent) → IsErrAnd r (λ e. e ≡ end) → NamesStuck s calls before end → Searches s calls before r
+  pub passed_on : (calls : List (List Standing)) (before : ℕ) (r : Result ℕ NoDescent) (end : NoDescent) → IsErrAnd r (λ e. e ≡ end) →
+      NamesStuck s calls before end → Searches s calls before r
   passed_on calls before (Ok after) end is named = absurd is
   passed_on calls before (Err e) end is named = subst (λ (x : NoDescent). NamesStuck s calls before x) (sym is) named

@@ -10,7 +10,8 @@ use Rattle.px_descent.specs.Kept.{stands_in}
 
 module _ (P : Program) (n : ℕ) (terms : List Term) (bound : List Standing) where
   -- what a term is to the parameters, where there is one
-  shown : (t : Option Term) → option_map (λ (part : Seen). (part bound).stands) (option_map (walk P n) t) ≡ option_map (λ (t : Term). (walk P n t bound).stands) t
+  shown : (t : Option Term) → option_map (λ (part : Seen). (part bound).stands) (option_map (walk P n) t) ≡ option_map
+      (λ (t : Term). (walk P n t bound).stands) t
   shown None = refl
   shown (Some t) = refl
 
@@ -31,7 +32,8 @@ module _ (P : Program) (n : ℕ) (terms : List Term) (bound : List Standing) whe
       ∙ ap (option_map (λ (t : Term). (walk P n t bound).stands)) (sym is)
 
   -- a test of what the term at a position is tells whether the call keeps the position
-  pub keeps_at : (p : ℕ) (t : Term) (b : Bool) (s : Standing) → Some t ≡ slice_get terms p → s ≡ (walk P n t bound).stands → IsTrue b ↔ ((s ≡ itself p) ⊎ (s ≡ below p)) → IsTrue b ↔ Keeps (stands_in P n terms bound) p
+  pub keeps_at : (p : ℕ) (t : Term) (b : Bool) (s : Standing) → Some t ≡ slice_get terms p → s ≡ (walk P n t bound).stands →
+      IsTrue b ↔ ((s ≡ itself p) ⊎ (s ≡ below p)) → IsTrue b ↔ Keeps (stands_in P n terms bound) p
   keeps_at p t b s is said test =
       let there : slice_get (stands_in P n terms bound) p ≡ Some s = stands_at p t is ∙ ap Some (sym said) in (
         λ yes. ⊎_elim (λ e. inl (there ∙ ap Some e)) (λ e. inr (there ∙ ap Some e)) (test.0 yes),

@@ -1,7 +1,7 @@
 //! Whether every definition descends, and which is the first that does not.
 
-ghost use Rattle.std.specs.Prelude.{◌↔◌, ℕ, ◌<◌, ◌≤◌, Bool, false, IsTrue, length, get_or, IsOk, IfErr, OnOk};
-ghost use Rattle.px_terms.specs.Descent.{AllDescend, IsKept};
+ghost use Rattle.std.specs.Prelude.{◌≤◌, length, IsOk, IfErr, OnOk};
+ghost use Rattle.px_terms.specs.Descent.{AllDescend};
 ghost use Rattle.px_descent.specs.Largest.{LargestServes};
 ghost use Rattle.px_descent.specs.Ends.{TellsKept, NamesFirst, NamesFirstIn};
 
@@ -9,11 +9,12 @@ use crate::around::Around;
 use crate::end::NoDescent;
 use crate::kept::{Positions, clear_raised};
 use crate::stuck::{Search, pass};
+use px_terms::limits::PROGRAM_BYTES;
 use px_terms::{Def, Program};
 
-/// The positions of a definition of which is known at once whether they are kept. No text has so many: it is of at most
-/// 262,144 bytes, and a parameter takes four.
-const POSITIONS: usize = 65_536;
+/// The positions of a definition of which is known at once whether they are kept. A parameter takes at least four bytes of
+/// a program's text, so no text has a definition with more.
+const POSITIONS: usize = PROGRAM_BYTES / 4;
 
 /// Whether every definition descends: there are positions that no self-call raises, of which each self-call lowers one.
 /// Else the first definition that does not. It takes no memory; its calls nest as deep as a body.

@@ -1,13 +1,14 @@
 //! The first walk of a body: which positions every self-call keeps.
 
-ghost use Rattle.std.specs.Prelude.{◌≡◌, ◌↔◌, ℕ, IsTrue, List, [], ◌∷◌, map, MatchOption, OnSome, ◌<◌, ◌^◌};
+ghost use Rattle.std.specs.Prelude.{◌↔◌, ℕ, IsTrue, [], ◌∷◌, map};
 ghost use Rattle.px_terms.specs.declared.program.Program.{Program as AnyProgram};
-ghost use Rattle.px_terms.specs.Descent.{Standing as AnyStanding, walk, calls_in, calls_in_arms, Keeps};
-ghost use Rattle.px_descent.specs.Around.{standing_of, bound_of};
-ghost use Rattle.px_descent.specs.Kept.{stands_in, own_call, Clears};
+ghost use Rattle.px_terms.specs.Descent.{calls_in, Keeps};
+ghost use Rattle.px_descent.specs.Around.{bound_of};
+ghost use Rattle.px_descent.specs.Kept.{stands_in, own_call, walked, arm_calls, Clears};
 
 use crate::around::{Around, Matched, arm_of, standing};
-use px_terms::{Head, Program, Term};
+use crate::calls::own_arguments;
+use px_terms::{Program, Term};
 use sqlite_items::at;
 
 /// Positions of a definition, from `first` on.
@@ -16,23 +17,6 @@ pub(crate) struct Positions<'a> {
     pub(crate) program: &'a Program,
     pub(crate) def: usize,
     pub(crate) first: u32,
-}
-
-/// The arguments of the term, where it is a call of this definition.
-pub(crate) fn own_arguments<'a>(t: &'a Term, def: usize) -> Option<&'a [Term]>
-    ensures is { (P : AnyProgram) (bound : List AnyStanding) → MatchOption result (own_call P def t.now bound ≡ []) (λ args. own_call P def t.now bound ≡ stands_in P def args.now bound ∷ []) }
-    ensures number { OnSome result (def < 2 ^ 32) }
-{
-    let Term::Call { fun, args, .. } = t else {
-        return None;
-    };
-    let Head::Def(number) = fun.head else {
-        return None;
-    };
-    if number as usize != def {
-        return None;
-    }
-    Some(args.as_slice())
 }
 
 /// Whether a call with these arguments passes at this position its parameter, or what is below it.
@@ -69,7 +53,7 @@ fn clear_own(positions: &Positions, t: &Term, around: &Around, kept: &mut [bool]
 /// term.
 #[cycle(clear)]
 pub(crate) fn clear_raised(positions: &Positions, t: &Term, around: &Around, kept: &mut [bool])
-    ensures { Clears positions.now.first (walk positions.now.program.now positions.now.def t.now (bound_of around.now)).calls kept.old kept.new }
+    ensures { Clears positions.now.first (walked positions.now t.now (bound_of around.now)).calls kept.old kept.new }
 {
     clear_own(positions, t, around, kept);
     match t {
@@ -96,7 +80,7 @@ pub(crate) fn clear_raised(positions: &Positions, t: &Term, around: &Around, kep
 /// Clears the positions that some self-call in the parts does not keep.
 #[cycle(clear)]
 fn clear_in_parts(positions: &Positions, parts: &[Term], around: &Around, kept: &mut [bool])
-    ensures { Clears positions.now.first (calls_in (map (walk positions.now.program.now positions.now.def) parts.now) (bound_of around.now)) kept.old kept.new }
+    ensures { Clears positions.now.first (calls_in (map (walked positions.now) parts.now) (bound_of around.now)) kept.old kept.new }
 {
     for part in parts {
         clear_raised(positions, part, around, kept);
@@ -106,7 +90,7 @@ fn clear_in_parts(positions: &Positions, parts: &[Term], around: &Around, kept: 
 /// Clears the positions that some self-call in the arms does not keep.
 #[cycle(clear)]
 fn clear_in_arms(positions: &Positions, arms: &[Term], matched: &Matched, kept: &mut [bool])
-    ensures { Clears positions.now.first (calls_in_arms positions.now.program.now matched.now.datatype 0 (map (walk positions.now.program.now positions.now.def) arms.now) (standing_of matched.now.on) (bound_of matched.now.around.now)) kept.old kept.new }
+    ensures { Clears positions.now.first (arm_calls positions.now.program.now matched.now (map (walked positions.now) arms.now)) kept.old kept.new }
 {
     for (con, arm) in arms.iter().enumerate() {
         let around = arm_of(positions.program, matched, con);

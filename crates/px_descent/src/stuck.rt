@@ -1,15 +1,15 @@
 //! The second walk of a body: the first self-call that lowers no kept position.
 
 ghost use Rattle.std.specs.Prelude.{◌≡◌, ◌↔◌, IsTrue, List, map, All};
-ghost use Rattle.px_terms.specs.Descent.{Standing as AnyStanding, below, walk, self_calls, calls_in, calls_in_arms, Keeps, IsKept};
-ghost use Rattle.px_descent.specs.Around.{standing_of, bound_of};
-ghost use Rattle.px_descent.specs.Kept.{stands_in, own_call};
-ghost use Rattle.px_descent.specs.Largest.{LowersKept};
-ghost use Rattle.px_descent.specs.Searches.{IsRight, Searches};
+ghost use Rattle.px_terms.specs.Descent.{Standing as AnyStanding, below, calls_in, Keeps};
+ghost use Rattle.px_descent.specs.Around.{bound_of};
+ghost use Rattle.px_descent.specs.Kept.{stands_in, own_call, arm_calls};
+ghost use Rattle.px_descent.specs.Searches.{IsRight, IsKeptIn, Lowered, searched, own_calls, Searches};
 
 use crate::around::{Around, Matched, arm_of, standing};
+use crate::calls::own_arguments;
 use crate::end::NoDescent;
-use crate::kept::{Positions, clear_raised, own_arguments};
+use crate::kept::{Positions, clear_raised};
 use crate::standing::Standing;
 use px_terms::{Def, Program, Term};
 use sqlite_items::at;
@@ -25,7 +25,7 @@ pub(crate) struct Search<'a> {
 
 /// Whether each self-call keeps the position, by a walk of the whole body.
 fn is_kept_by_all(search: &Search, position: u32) -> bool
-    ensures { IsTrue result ↔ All (λ (args : List AnyStanding). Keeps args position) (self_calls search.now.program.now search.now.def search.now.definition.now) }
+    ensures { IsTrue result ↔ All (λ (args : List AnyStanding). Keeps args position) (own_calls search.now) }
 {
     let positions = Positions {
         program: search.program,
@@ -46,7 +46,7 @@ fn is_kept_by_all(search: &Search, position: u32) -> bool
 /// a walk of the body.
 fn is_kept(search: &Search, position: u32) -> bool
     requires { IsRight search.now }
-    ensures { IsTrue result ↔ IsKept search.now.program.now search.now.def search.now.definition.now position }
+    ensures { IsTrue result ↔ IsKeptIn search.now position }
 {
     if position as usize >= search.definition.params.len() {
         return false;
@@ -60,7 +60,7 @@ fn is_kept(search: &Search, position: u32) -> bool
 /// Whether the position is kept, and this argument for it is below its parameter.
 fn lowers_at(search: &Search, arg: &Term, around: &Around, position: usize) -> bool
     requires { IsRight search.now }
-    ensures { IsTrue result ↔ (IsKept search.now.program.now search.now.def search.now.definition.now position × ((walk search.now.program.now search.now.def arg.now (bound_of around.now)).stands ≡ below position)) }
+    ensures { IsTrue result ↔ (IsKeptIn search.now position × ((searched search.now arg.now (bound_of around.now)).stands ≡ below position)) }
 {
     match standing(arg, around) {
         Standing::Below(own) => own as usize == position && is_kept(search, own),
@@ -71,7 +71,7 @@ fn lowers_at(search: &Search, arg: &Term, around: &Around, position: usize) -> b
 /// Whether a call with these arguments lowers a kept position.
 fn lowers_kept(search: &Search, args: &[Term], around: &Around) -> bool
     requires { IsRight search.now }
-    ensures { IsTrue result ↔ LowersKept search.now.program.now search.now.def search.now.definition.now (stands_in search.now.program.now search.now.def args.now (bound_of around.now)) }
+    ensures { IsTrue result ↔ Lowered search.now (stands_in search.now.program.now search.now.def args.now (bound_of around.now)) }
 {
     for (index, arg) in args.iter().enumerate() {
         if lowers_at(search, arg, around, index) {
@@ -108,7 +108,7 @@ pub(crate) fn pass(
     before: u32,
 ) -> Result<u32, NoDescent>
     requires { IsRight search.now }
-    ensures { Searches search.now (walk search.now.program.now search.now.def t.now (bound_of around.now)).calls before result }
+    ensures { Searches search.now (searched search.now t.now (bound_of around.now)).calls before result }
 {
     let passed = pass_own(search, t, around, before)?;
     match t {
@@ -141,7 +141,7 @@ fn pass_parts(
     before: u32,
 ) -> Result<u32, NoDescent>
     requires { IsRight search.now }
-    ensures { Searches search.now (calls_in (map (walk search.now.program.now search.now.def) parts.now) (bound_of around.now)) before result }
+    ensures { Searches search.now (calls_in (map (searched search.now) parts.now) (bound_of around.now)) before result }
 {
     let mut passed = before;
     for part in parts {
@@ -159,7 +159,7 @@ fn pass_arms(
     before: u32,
 ) -> Result<u32, NoDescent>
     requires { IsRight search.now }
-    ensures { Searches search.now (calls_in_arms search.now.program.now matched.now.datatype 0 (map (walk search.now.program.now search.now.def) arms.now) (standing_of matched.now.on) (bound_of matched.now.around.now)) before result }
+    ensures { Searches search.now (arm_calls search.now.program.now matched.now (map (searched search.now) arms.now)) before result }
 {
     let mut passed = before;
     for (con, arm) in arms.iter().enumerate() {

@@ -28,7 +28,8 @@ pub clear_raised-returns-in-Match : goal.clear_raised-returns-in-Match
 clear_raised-returns-in-Match t c =
     let at = c.args.positions.now in
     match_cleared at.program.now at.def at.first c.args.kept.now c.clear_own.new.kept c.clear_raised.new.kept c.clear_in_arms.new.kept
-    c.args.t.now c.in-Match.on c.get.result.now c.get-in-Match.result.now c.in-Match.datatype c.in-Match.types c.in-Match.arms c.as_slice-in-Match.result.now
+    c.args.t.now c.in-Match.on c.get.result.now c.get-in-Match.result.now c.in-Match.datatype c.in-Match.types c.in-Match.arms
+    c.as_slice-in-Match.result.now
     (standing_of c.standing.result) (bound_of c.args.around.now)
     c.in-Match.is c.get.ensures c.get-in-Match.ensures (c.standing.ensures at.program.now at.def) c.as_slice-in-Match.ensures
     c.clear_own.ensures c.clear_raised.ensures c.clear_in_arms.ensures

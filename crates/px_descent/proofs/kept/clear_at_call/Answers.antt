@@ -13,9 +13,12 @@ loop-index-preserved c P n =
     let within : c.loop-index.index < length c.loop-index.kept = omega arith in
     elim c.if-not-keeps.branch [
       | then-not-keeps w ↦
-          rw w.kept-is (cleared_more c.args.first args c.loop-index.index c.args.kept.now c.loop-index.kept within (c.loop-index.invariant P n) (iff_false (c.keeps.ensures P n) w.if-not-keeps.true))
+          rw w.kept-is (cleared_more c.args.first args c.loop-index.index c.args.kept.now c.loop-index.kept within (c.loop-index.invariant P n)
+          (iff_false (c.keeps.ensures P n) w.if-not-keeps.true))
       | else-not-keeps w ↦
-          rw (w.kept-is ∙ set-get_or c.loop-index.kept c.loop-index.index false) (kept_more c.args.first args c.loop-index.index c.args.kept.now c.loop-index.kept (c.loop-index.invariant P n) ((c.keeps.ensures P n).0 w.if-not-keeps.false))
+          rw (w.kept-is ∙ set-get_or c.loop-index.kept c.loop-index.index false)
+          (kept_more c.args.first args c.loop-index.index c.args.kept.now c.loop-index.kept (c.loop-index.invariant P n)
+          ((c.keeps.ensures P n).0 w.if-not-keeps.false))
     ]
 
 pub returns : goal.returns

@@ -11,4 +11,5 @@ returns-then-not-lowers_kept c =
     let bound = bound_of c.args.around.now in
     let fits : c.args.before < 2 ^ 32 = omega arith in
     rw (c.in-Some.ensures.is s.program.now bound)
-    (one_stuck s (stands_in s.program.now s.def c.in-Some.args.now bound) c.args.before (record { def = s.def; call = c.args.before }) fits (iff_false c.lowers_kept.ensures c.if-not-lowers_kept.true) refl refl)
+    (one_stuck s (stands_in s.program.now s.def c.in-Some.args.now bound) c.args.before (record { def = s.def; call = c.args.before }) fits
+    (iff_false c.lowers_kept.ensures c.if-not-lowers_kept.true) refl refl)
