@@ -70,7 +70,11 @@ module _ (P : Program) (funs : List FnType) (h : Head) (p : Prop) where
 
     pub fitting : (b : Bool) → (IsTrue b ↔ (HasResult s p × (length leading + (says s p).named ≤ CLAUSE_VARIABLES))) → (IsTrue b ↔ Fits P funs h p)
     fitting b told = (
-      λ (holds : IsTrue b). (let has = told.0 holds in let clause : Clause = clause_for s p signature.tparams signature.funs in record { clause = clause; says = stated clause has.0 refl; few = subst (λ (n : ℕ). n ≤ CLAUSE_VARIABLES) (sym (counted clause refl)) has.1 }),
+      λ (holds : IsTrue b). (let has = told.0 holds in let clause : Clause = clause_for s p signature.tparams signature.funs in record {
+        clause = clause;
+        says = stated clause has.0 refl;
+        few = subst (λ (n : ℕ). n ≤ CLAUSE_VARIABLES) (sym (counted clause refl)) has.1;
+      }),
       λ (fits : Fits P funs h p). told.1 (asked fits.clause fits.says, subst (λ (n : ℕ). n ≤ CLAUSE_VARIABLES) (counted fits.clause (is_it fits.clause fits.says)) fits.few),
     )
 
@@ -96,7 +100,8 @@ module _ (P : Program) (funs : List FnType) (h : Head) (p : Prop) where
       answer (signature_of f) f.leading.now f.last.now called.signature refl r
       (subst (λ (x : Head). IsAnswered (subject x (signature_of f) f.leading.now f.last.now) f.tparams f.funs.now p r) called.head told)
 
-  pub found_fitting : (f : Function) → IsCalled (signature_at P funs h) h f → (b : Bool) → (IsTrue b ↔ (HasResult (subject_of f) p × (length f.leading.now + (says (subject_of f) p).named ≤ CLAUSE_VARIABLES))) → (IsTrue b ↔ Fits P funs h p)
+  pub found_fitting : (f : Function) → IsCalled (signature_at P funs h) h f → (b : Bool) →
+      (IsTrue b ↔ (HasResult (subject_of f) p × (length f.leading.now + (says (subject_of f) p).named ≤ CLAUSE_VARIABLES))) → (IsTrue b ↔ Fits P funs h p)
   found_fitting f called b told =
       fitting (signature_of f) f.leading.now f.last.now called.signature refl b
       (subst (λ (x : Head). let s = subject x (signature_of f) f.leading.now f.last.now in IsTrue b ↔ (HasResult s p × (length f.leading.now + (says s p).named ≤ CLAUSE_VARIABLES))) called.head told)

@@ -47,7 +47,13 @@ mapped_some f (Some a) b e = (a, refl, same_Some (f a) b e)
 
 -- the function with its own variables put in, by its signature and the types of its parameters
 abbrev pub subject : Head → Signature → List Ty → Ty → Subject
-subject h signature leading last = record { function = record { head = h; types = own_types signature.tparams }; given = own_functions (length signature.funs); leading = leading; last = last; result = signature.result }
+subject h signature leading last = record {
+  function = record { head = h; types = own_types signature.tparams };
+  given = own_functions (length signature.funs);
+  leading = leading;
+  last = last;
+  result = signature.result;
+}
 
 -- A clause of a property by the signature.
 pub record Spoken (P : Program) (funs : List FnType) (h : Head) (p : Prop) (clause : Clause) : Type 0 where
@@ -73,13 +79,18 @@ takes_of P context _ takes params T (typing.equal is) = (refl, is)
 takes_of P context _ takes params T (typing.of_variable {F = F} found params_is result_is) = (F, found, params_is, result_is)
 
 -- a subject is the one of its signature
-is_subject : (P : Program) (context : Context) (h : Head) (signature : Signature) (s : Subject) → s.function ≡ record { head = h; types = own_types signature.tparams } → s.given ≡ own_functions (length signature.funs) → s.result ≡ signature.result → s ≡ subject h signature s.leading s.last
-is_subject P context h signature s function given result = λ i. record { function = function i; given = given i; leading = s.leading; last = s.last; result = result i }
+is_subject : (h : Head) (signature : Signature) (s : Subject) → s.function ≡ record { head = h; types = own_types signature.tparams } →
+    s.given ≡ own_functions (length signature.funs) → s.result ≡ signature.result → s ≡ subject h signature s.leading s.last
+is_subject h signature s function given result = λ i. record { function = function i; given = given i; leading = s.leading; last = s.last; result = result i }
 
 module _ (P : Program) (funs : List FnType) where
-  spoken_by : (h : Head) (p : Prop) (clause : Clause) (context : Context) (signature : Signature) (s : Subject) (params : List Ty) → signature_at P funs h ≡ Some signature → signature.params ≡ params → signature.result ≡ s.result → IsSubject P context (record { head = h; types = own_types signature.tparams }) (own_functions (length signature.funs)) s → params ≡ s.leading ++ s.last ∷ s.last ∷ [] → HasResult s p → clause ≡ clause_for s p signature.tparams signature.funs → Spoken P funs h p clause
+  spoken_by : (h : Head) (p : Prop) (clause : Clause) (context : Context) (signature : Signature) (s : Subject) (params : List Ty) →
+      signature_at P funs h ≡ Some signature → signature.params ≡ params → signature.result ≡ s.result →
+      IsSubject P context (record { head = h; types = own_types signature.tparams }) (own_functions (length signature.funs)) s →
+      params ≡ s.leading ++ s.last ∷ s.last ∷ [] → HasResult s p → clause ≡ clause_for s p signature.tparams signature.funs →
+      Spoken P funs h p clause
   spoken_by h p clause context signature s params stands params_are result_is is shape asked clause_is =
-      let same = is_subject P context h signature s is.is_function is.is_given (sym result_is) in
+      let same = is_subject h signature s is.is_function is.is_given (sym result_is) in
       record {
         signature = signature;
         leading = s.leading;
@@ -111,7 +122,9 @@ module _ (P : Program) (funs : List FnType) where
   module _ (p : Prop) (clause : Clause) (leading : List Ty) (last : Ty) where
     -- by this signature, the clause is the property's
     abbrev States : Head → Signature → Type 0
-    States h signature = signature.params ≡ leading ++ last ∷ last ∷ [] → HasResult (subject h signature leading last) p → clause ≡ clause_for (subject h signature leading last) p signature.tparams signature.funs → IsClauseOf P funs h p clause
+    States h signature =
+        let s = subject h signature leading last in
+        signature.params ≡ leading ++ last ∷ last ∷ [] → HasResult s p → clause ≡ clause_for s p signature.tparams signature.funs → IsClauseOf P funs h p clause
 
     of_definition : (n : ℕ) (D : definition.Def) → slice_get P.defs n ≡ Some D → States (Def n) (signatures.of_definition D)
     of_definition n D found pair asked is =
@@ -127,7 +140,8 @@ module _ (P : Program) (funs : List FnType) where
           is_given = refl;
         }) asked is
 
-    of_comparison : (h : Head) → IsFunction P (functions_alone 0 funs) (record { head = h; types = [] }) [] comparison.params bool_type → comparison.params ≡ leading ++ last ∷ last ∷ [] → IsSubject P (functions_alone 0 funs) (record { head = h; types = [] }) [] (subject h comparison leading last)
+    of_comparison : (h : Head) → IsFunction P (functions_alone 0 funs) (record { head = h; types = [] }) [] comparison.params bool_type →
+        comparison.params ≡ leading ++ last ∷ last ∷ [] → IsSubject P (functions_alone 0 funs) (record { head = h; types = [] }) [] (subject h comparison leading last)
     of_comparison h function pair = record { takes = []; params = comparison.params; function = function; taken = refl; shape = pair; is_function = refl; is_given = refl }
 
     of_variable : (i : ℕ) (F : FnType) → slice_get funs i ≡ Some F → States (FnVar i) (signatures.of_variable F)
@@ -158,7 +172,8 @@ module _ (P : Program) (funs : List FnType) where
   states h p clause said = of_signature p clause said.leading said.last h said.signature said.stands said.pair said.asked said.is
 
   -- what is called is spoken of in one way
-  module _ (h : Head) (a b : Signature) (xs ys : List Ty) (x y : Ty) (at_a : signature_at P funs h ≡ Some a) (at_b : signature_at P funs h ≡ Some b) (pair_a : a.params ≡ xs ++ x ∷ x ∷ []) (pair_b : b.params ≡ ys ++ y ∷ y ∷ []) where
+  module _ (h : Head) (a b : Signature) (xs ys : List Ty) (x y : Ty) (at_a : signature_at P funs h ≡ Some a) (at_b : signature_at P funs h ≡ Some b)
+      (pair_a : a.params ≡ xs ++ x ∷ x ∷ []) (pair_b : b.params ≡ ys ++ y ∷ y ∷ []) where
     same_signature : a ≡ b
     same_signature = same_Some a b (sym at_a ∙ at_b)
 

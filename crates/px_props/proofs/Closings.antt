@@ -26,11 +26,17 @@ other {q} adds p differ has =
     ⊎_elim (λ (old : _). old) (λ (new : _). let same : (prop_number p == prop_number q) ≡ true = eq-eqb (prop_number p) (prop_number q) (ap prop_number new.0) in cc) ((adds.each p).0 has)
 
 -- what is in the larger set is implied, if all of the smaller one is and the new property is where it follows
-reached : {old new : PropSet} {follows : Bool} {q : Prop} (set : PropSet) → Adds old new follows q → ((p : Prop) → HasProp old p → Closure (HasProp set) p) → (IsTrue follows → Closure (HasProp set) q) → (p : Prop) → HasProp new p → Closure (HasProp set) p
+reached : {old new : PropSet} {follows : Bool} {q : Prop} (set : PropSet) → Adds old new follows q →
+    ((p : Prop) → HasProp old p → Closure (HasProp set) p) → (IsTrue follows → Closure (HasProp set) q) →
+    (p : Prop) → HasProp new p → Closure (HasProp set) p
 reached set adds before given p has =
     ⊎_elim (λ (old : _). before p old) (λ (new : _). subst (Closure (HasProp set)) (sym new.0) (given new.1)) ((adds.each p).0 has)
 
-module _ (set idem refl_set irrefl antisym all : PropSet) (sel conn asym : Bool) (sel_is : IsTrue sel ↔ HasProp set Sel) (conn_is : IsTrue conn ↔ HasProp set Conn) (asym_is : IsTrue asym ↔ (HasProp set Asym ⊎ (HasProp set Irrefl × HasProp set Trans))) (one : Adds set idem sel Idem) (two : Adds idem refl_set conn Refl) (three : Adds refl_set irrefl asym Irrefl) (four : Adds irrefl antisym asym Antisym) (five : Adds antisym all asym Asym) where
+module _ (set idem refl_set irrefl antisym all : PropSet) (sel conn asym : Bool)
+    (sel_is : IsTrue sel ↔ HasProp set Sel) (conn_is : IsTrue conn ↔ HasProp set Conn)
+    (asym_is : IsTrue asym ↔ (HasProp set Asym ⊎ (HasProp set Irrefl × HasProp set Trans)))
+    (one : Adds set idem sel Idem) (two : Adds idem refl_set conn Refl) (three : Adds refl_set irrefl asym Irrefl)
+    (four : Adds irrefl antisym asym Antisym) (five : Adds antisym all asym Asym) where
   asym_implied : IsTrue asym → Closure (HasProp set) Asym
   asym_implied holds = ⊎_elim (λ (has : _). known has) (λ (has : _). irrefl_and_trans_give_asym (known has.0) (known has.1)) (asym_is.0 holds)
 
@@ -56,7 +62,8 @@ module _ (set idem refl_set irrefl antisym all : PropSet) (sel conn asym : Bool)
 
   both_told : HasProp all Irrefl → HasProp all Trans → IsTrue asym
   both_told irr trans =
-      ⊎_elim (λ (old : _). asym_is.1 (inr (other one Irrefl refl (other two Irrefl refl old), was Trans refl refl refl refl refl trans))) (λ (new : _). new.1) ((three.each Irrefl).0 (other four Irrefl refl (other five Irrefl refl irr)))
+      let first = λ (old : HasProp refl_set Irrefl). asym_is.1 (inr (other one Irrefl refl (other two Irrefl refl old), was Trans refl refl refl refl refl trans)) in
+      ⊎_elim first (λ (new : _). new.1) ((three.each Irrefl).0 (other four Irrefl refl (other five Irrefl refl irr)))
 
   complete : (p : Prop) → Closure (HasProp set) p → HasProp all p
   complete p (known has) = first_kept p has

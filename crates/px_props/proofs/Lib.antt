@@ -4,3 +4,4 @@ pub mod ClauseFacts
 pub mod Closings
 pub mod Numbers
 pub mod Own
+pub mod WrittenSets

@@ -32,7 +32,11 @@ module _ (count : ℕ) where
   all_stay [] = refl
   all_stay (t ∷ ts) = let here : ty_instance (own_types count) t.0 ≡ t.0 = t.1 in let rest = all_stay ts in cc
 
-  layer_stays : (y : Ty-F ((T : Ty) × Stays T)) → ty_instance_step (own_types count) (map-Ty Ty Ty (ty_instance (own_types count)) (map-Ty ((T : Ty) × Stays T) Ty (λ (e : (T : Ty) × Stays T). e.0) y)) ≡ roll-Ty (map-Ty ((T : Ty) × Stays T) Ty (λ (e : (T : Ty) × Stays T). e.0) y)
+  -- a layer without the proofs beside its parts
+  abbrev plain : Ty-F ((T : Ty) × Stays T) → Ty-F Ty
+  plain = map-Ty ((T : Ty) × Stays T) Ty (λ (e : (T : Ty) × Stays T). e.0)
+
+  layer_stays : (y : Ty-F ((T : Ty) × Stays T)) → ty_instance_step (own_types count) (map-Ty Ty Ty (ty_instance (own_types count)) (plain y)) ≡ roll-Ty (plain y)
   layer_stays Ty-F.Word = sym type.rolls-Word
   layer_stays (Ty-F.Var n) =
       subst (λ (k : ℕ). unwrap_or (slice_get (own_types count) n) (type.Var k) ≡ type.Var k) (zero-add n) (own_at 0 count n) ∙ sym (type.rolls-Var n)
@@ -40,7 +44,8 @@ module _ (count : ℕ) where
 
   pub stays : (T : Ty) → Stays T
   stays = ind-Ty Stays (λ x y is.
-      subst (λ (z : Ty-F Ty). ty_instance (own_types count) (roll-Ty z) ≡ roll-Ty z) is (fold-roll-Ty Ty (ty_instance_step (own_types count)) (map-Ty ((T : Ty) × Stays T) Ty (λ (e : (T : Ty) × Stays T). e.0) y) ∙ layer_stays y))
+      subst (λ (z : Ty-F Ty). ty_instance (own_types count) (roll-Ty z) ≡ roll-Ty z) is
+      (fold-roll-Ty Ty (ty_instance_step (own_types count)) (plain y) ∙ layer_stays y))
 
   pub list_stays : (ts : List Ty) → tys_instance (own_types count) ts ≡ ts
   list_stays [] = refl

@@ -17,7 +17,7 @@ use px_terms::{
     Clause, FnType, Head, NoMemory, Program, Prop, Ty, copy_fn_types, copy_ty, copy_tys,
 };
 use sqlite_items::Items;
-use std::alloc::{AllocError, Global};
+use std::alloc::Global;
 
 /// Why there is no clause.
 #[derive(Clone, Copy, Debug, PartialEq, Eq)]

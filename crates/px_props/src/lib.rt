@@ -12,4 +12,4 @@ mod terms;
 mod tests;
 
 pub use clauses::{ClauseEnd, clause_of, fits};
-pub use sets::{at_most_properties, equal_properties, has, implied, with};
+pub use sets::{at_most_properties, equal_properties, has, implied, set_of_written, with};

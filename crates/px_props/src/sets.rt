@@ -1,11 +1,12 @@
 //! Sets of properties, and what they imply.
 
-ghost use Rattle.std.specs.Prelude.{◌≡◌, ◌↔◌, ◌⊎◌, IsTrue};
-ghost use Rattle.px_terms.specs.PropSets.{HasProp, prop_number};
+ghost use Rattle.std.specs.Prelude.{◌≡◌, ◌↔◌, ◌⊎◌, IsTrue, true, map, slice_set};
+ghost use Rattle.px_terms.specs.RawProp.{RawProp as Written};
+ghost use Rattle.px_terms.specs.PropSets.{HasProp, prop_number, set_of};
 ghost use Rattle.px_terms.specs.Implied.{HasAtMost, HasEqual};
 ghost use Rattle.px_props.specs.Sets.{IsSetOf, IsClosure};
 
-use px_terms::{Prop, PropSet};
+use px_terms::{Prop, PropSet, RawProp};
 
 /// The set of no property.
 const NONE: PropSet = PropSet { has: [false; 11] };
@@ -38,11 +39,23 @@ pub fn has(set: PropSet, prop: Prop) -> bool
 
 /// The set with this property. It takes no memory.
 pub fn with(set: PropSet, prop: Prop) -> PropSet
-    ensures { IsSetOf result (λ p. HasProp set p ⊎ (p ≡ prop)) }
+    ensures is { result.has ≡ slice_set set.has (prop_number prop) true }
+    ensures has { IsSetOf result (λ p. HasProp set p ⊎ (p ≡ prop)) }
 {
     let mut known = set;
     known.has[number_of(prop)] = true;
     known
+}
+
+/// The set of the properties that are written. It takes no memory.
+pub fn set_of_written(props: &[RawProp]) -> PropSet
+    ensures { result ≡ set_of (map (λ (written : Written). written.prop) props.now) }
+{
+    let mut set = NONE;
+    for written in props {
+        set = with(set, written.prop);
+    }
+    set
 }
 
 /// The set with what it implies: the least set that has it, and that has `idem` with `sel`, `refl` with `conn`, `irrefl`

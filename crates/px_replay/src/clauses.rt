@@ -1,6 +1,6 @@
 //! The clauses of the obligations: of properties of definitions, and of lemmas; and the first sequent of each.
 
-ghost use Rattle.std.specs.Prelude.{◌≡◌, ◌^◌, ◌<◌, [], IsTrue, IfOk, IsOkUnless, length};
+ghost use Rattle.std.specs.Prelude.{◌≡◌, ◌↔◌, ◌^◌, ◌<◌, [], IsTrue, IfOk, IsOkUnless, length};
 ghost use Rattle.px_terms.specs.declared.clause.Clause.{Clause};
 ghost use Rattle.px_terms.specs.Obligations as obligations;
 ghost use Rattle.px_terms.specs.Sequents.{first_sequent};
@@ -58,7 +58,7 @@ fn said_by(alloc: Global, lemma: &Lemma) -> Result<Clause, NoMemory>
     })
 }
 
-/// The clause of a property of a definition. Rejected where it has none.
+/// The clause of a property of a definition. Rejected exactly where it has none.
 fn property_clause(
     alloc: Global,
     program: &Program,
@@ -69,7 +69,7 @@ fn property_clause(
     ensures only { (clause : Clause) → obligations.IsDeclaredClause program.now (Declared.Property number prop) clause → IsOkUnless result ReplayEnd.NoMemory }
 {
     if !is_counted(program, number) {
-        // A clause of 2^32 variables and more is not made.
+        // A clause of 2^32 - 1 variables or functions and more is taken for one that no memory holds.
         return Err(ReplayEnd::NoMemory);
     }
     Ok(px_props::clause_of(alloc, program, Head::Def(number), &[], prop)?)
@@ -77,7 +77,7 @@ fn property_clause(
 
 /// The definition takes no more than words of 32 bits count, or there is none.
 fn is_counted(program: &Program, number: u32) -> bool
-    ensures { IsTrue result → IsCounted program.now [] (Head.Def number) }
+    ensures { IsTrue result ↔ IsCounted program.now [] (Head.Def number) }
 {
     match at(program.defs.as_slice(), number as usize) {
         Some(def) => {

@@ -17,10 +17,20 @@ goal 1\ncase 0\nstep a0l / unfold\nstep a0l / select\nsame 0\nstep a0l / unfold\
 const IDEM: &[u8] =
     b"goal 0\ncase 0\nstep a0l / unfold\nstep a0l / select\nsame 0\nstep a0l / unfold\nstep a0l / select\nsame 0\n";
 
+/// The derivation that `or` is associative.
+const ASSOC: &[u8] =
+    b"goal 0\ncase 0\nstep a0l / unfold\nstep a0l /0 unfold\nstep a0l /0 select\nstep a0r / unfold\nstep a0r / select\n\
+step a0r / unfold\nsame 0\nstep a0l / unfold\nstep a0l /0 unfold\nstep a0l /0 select\nstep a0l / select\n\
+step a0r / unfold\nstep a0r / select\nsame 0\n";
+
+/// The derivation that `or` gives one of the two, where each case closes by another alternative.
+const SEL: &[u8] =
+    b"goal 0\ncase 0\nstep a1l / unfold\nstep a1l / select\nsame 1\nstep a0l / unfold\nstep a0l / select\nsame 0\n";
+
 const REJECTED: Result<Accepted, ReplayEnd> = Err(ReplayEnd::Rejected);
 
 /// Properties of `or`, a text, and what replay answers.
-const TEXTS: [(&[Prop], &[u8], Result<Accepted, ReplayEnd>); 12] = [
+const TEXTS: [(&[Prop], &[u8], Result<Accepted, ReplayEnd>); 15] = [
     (
         &[Prop::Comm, Prop::Idem],
         BOTH,
@@ -28,6 +38,8 @@ const TEXTS: [(&[Prop], &[u8], Result<Accepted, ReplayEnd>); 12] = [
     ),
     (&[Prop::Idem], IDEM, Ok(Accepted { obligations: 1 })),
     (&[], b"", Ok(Accepted { obligations: 0 })),
+    (&[Prop::Assoc], ASSOC, Ok(Accepted { obligations: 1 })),
+    (&[Prop::Sel], SEL, Ok(Accepted { obligations: 1 })),
     // Unfolded once, above the cases.
     (
         &[Prop::Idem],
@@ -38,6 +50,8 @@ const TEXTS: [(&[Prop], &[u8], Result<Accepted, ReplayEnd>); 12] = [
     (&[Prop::Idem], BOTH, REJECTED),
     (&[], b"\n", REJECTED),
     (&[Prop::Assoc], IDEM, REJECTED),
+    // A premise is a fact, and what is to be shown is not among the facts.
+    (&[Prop::Sym], b"goal 0\nsame 0\n", REJECTED),
     // The sides differ; there is no such variable; the case of `True` is missing.
     (&[Prop::Idem], b"goal 0\nsame 0\n", REJECTED),
     (&[Prop::Idem], b"goal 0\ncase 1\nsame 0\nsame 0\n", REJECTED),

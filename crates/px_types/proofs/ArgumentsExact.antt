@@ -20,12 +20,13 @@ use Rattle.px_types.specs.Written as written
 use Rattle.px_types.specs.Faults.{Broken, breaks, Env, Counts, counts_of, AreRight, BreaksTys, types_of_function, IsFunctionMet, HasArgumentCount, IsFunctionOf, BreaksArgument, IsRightArgument, BreaksArguments, AreRightArguments}
 use Rattle.px_types.specs.Faults as faults
 use Rattle.px_types.specs.Outcomes.{onward, needs, there, each_two}
+use Rattle.px_types.specs.Laws.{IsPlaced}
 use Rattle.px_types.specs.Outcome.{tys_found, Signature, signature_of, has_wanted, argument_found, arguments_found}
 use Rattle.px_types.proofs.Exact.{Exact, Both, Either, first, later, exact_as, exact_ok, exact_needs, exact_there, exact_then, Every, AllTwo, OneOfTwo, exact_each_two}
 use Rattle.px_types.proofs.Exact as exact
 use Rattle.px_types.proofs.TypesExact.{exact_types, same_length, are_types}
 use Rattle.px_types.proofs.Known.{decides_wanted, Lacking, lacking}
-use Rattle.px_types.proofs.Functions.{IsPlaced, small_of, all_met, decides_function_met, decides_argument_count, IsAlike, decides_alike, TakesTypes, no_signature, function_of, function_is, function_counts, function_types}
+use Rattle.px_types.proofs.Functions.{small_of, all_met, decides_function_met, decides_argument_count, IsAlike, decides_alike, TakesTypes, no_signature, function_of, function_is, function_counts, function_types}
 
 -- The written function is this one, which may stand where one of this type is wanted.
 pub record IsRightFun (E : Env) (raw : RawFun) (wanted : FnType) (f : Fun) : Type 0 where

@@ -178,3 +178,38 @@ exact_each_two {X} {Y} {T} found Is Br (x ∷ xs) (z ∷ zs) same (one, all) = e
     br_from : (b : Broken) → OneOfTwo Is Br (x ∷ xs) (z ∷ zs) b → Either (Is x z) (Br x z) (λ (y : T). Either (AllTwo Is xs zs) (OneOfTwo Is Br xs zs) (λ _ _. ⊥)) b
     br_from b (here br) = first br
     br_from b (behind {y = y} is br) = later y is (first br)
+
+-- the states after each item in turn
+pub data Along {S X : Type 0} (Is : S → X → S → Type 0) : S → List X → S → Type 0 where
+  none : {s : S} → Along Is s [] s
+  more : {s t u : S} {x : X} {xs : List X} → Is s x t → Along Is t xs u → Along Is s (x ∷ xs) u
+
+-- the first item that breaks a rule, at the state before it
+pub data AlongBreaks {S X : Type 0} (Is : S → X → S → Type 0) (Br : S → X → Broken → Type 0) : S → List X → Broken → Type 0 where
+  here : {s : S} {x : X} {xs : List X} {b : Broken} → Br s x b → AlongBreaks Is Br s (x ∷ xs) b
+  behind : {s t : S} {x : X} {xs : List X} {b : Broken} → Is s x t → AlongBreaks Is Br t xs b → AlongBreaks Is Br s (x ∷ xs) b
+
+-- an along and a break of it, by its first item
+along_first : {S X : Type 0} {Is : S → X → S → Type 0} {s u : S} {x : X} {xs : List X} → Along Is s (x ∷ xs) u → Both (Is s x) (λ (t : S). Along Is t xs) u
+along_first (more {t = t} is rest) = record { x = t; is = is; after = rest }
+
+break_first : {S X : Type 0} {Is : S → X → S → Type 0} {Br : S → X → Broken → Type 0} {s : S} {x : X} {xs : List X} {b : Broken} → AlongBreaks Is Br s (x ∷ xs) b → Either (Is s x) (Br s x) (λ (t : S). AlongBreaks Is Br t xs) b
+break_first (here br) = first br
+break_first (behind {t = t} is br) = later t is br
+
+first_break : {S X : Type 0} {Is : S → X → S → Type 0} {Br : S → X → Broken → Type 0} {s : S} {x : X} {xs : List X} {b : Broken} → Either (Is s x) (Br s x) (λ (t : S). AlongBreaks Is Br t xs) b → AlongBreaks Is Br s (x ∷ xs) b
+first_break (first br) = here br
+first_break (later t is br) = behind is br
+
+along_end : {S X : Type 0} {Is : S → X → S → Type 0} {s t : S} → Along Is s [] t → s ≡ t
+along_end none = refl
+
+no_break : {S X : Type 0} {Is : S → X → S → Type 0} {Br : S → X → Broken → Type 0} {s : S} {b : Broken} → AlongBreaks Is Br s [] b → ⊥
+no_break h = elim h [ ]
+
+pub exact_along : {S X : Type 0} (found : S → X → Result S Broken) (Is : S → X → S → Type 0) (Br : S → X → Broken → Type 0) (xs : List X) → Every (λ (x : X). (s : S) → Exact (found s x) (Is s x) (Br s x)) xs → (s : S) → Exact (along found s xs) (Along Is s xs) (AlongBreaks Is Br s xs)
+unfolding along
+exact_along found Is Br [] all s = record { says = none; ok = λ t h. ap Ok (along_end h); err = λ b h. absurd (no_break h) }
+exact_along {S} {X} found Is Br (x ∷ xs) (one, all) s =
+    let rest : (t : S) → Exact (along found t xs) (Along Is t xs) (AlongBreaks Is Br t xs) = exact_along found Is Br xs all in
+    exact_as (exact_then (one s) (λ t is. rest t)) (λ u both. more both.is both.after) (λ u h. along_first h) (λ b h. first_break h) (λ b h. break_first h)

@@ -22,16 +22,11 @@ use Rattle.px_terms.specs.Typing.{Place, anywhere, in_body, behind, AreTypes, Is
 use Rattle.px_terms.specs.Typing as typing
 use Rattle.px_terms.specs.TypedPrograms.{IsWritten}
 use Rattle.px_types.specs.Faults.{Env, Counts, counts_of, types_of_function, IsFunctionMet, HasArgumentCount}
+use Rattle.px_types.specs.Laws.{IsPlaced}
 use Rattle.px_types.specs.Outcome.{is_small, is_met, is_function_met, Signature, signature_of, passes, stands_before, are_own, may_call, may_pass, has_argument_count, has_counts, is_alike, same, same_all}
 use Rattle.px_types.proofs.TypesExact.{decides_small}
 use Rattle.px_types.proofs.Sameness.{decides_same, decides_same_all}
 use Rattle.px_types.proofs.Known.{decides_passes}
-
--- the place is one in the text
-abbrev pub IsPlaced : Place → Type 0
-IsPlaced anywhere = ⊥
-IsPlaced (in_body n) = Unit {0}
-IsPlaced (behind count) = Unit {0}
 
 pub met_of : (place : Place) (T : Ty) → IsSmallMet T → IsMet place T
 met_of anywhere T small = tt

@@ -39,13 +39,14 @@ use Rattle.px_types.specs.Written as written
 use Rattle.px_types.specs.Faults.{Broken, breaks, Env, Counts, counts_of, con_counts, HasCounts, Begins, AreRight, BreaksTys, IsTyped, AreTyped, AreRightArguments, BreaksArgument, BreaksArguments, IsCalled, Breaks, BreaksParts}
 use Rattle.px_types.specs.Faults as faults
 use Rattle.px_types.specs.Outcomes.{onward, needs, there, each_two}
+use Rattle.px_types.specs.Laws.{IsDeclaring}
 use Rattle.px_types.specs.Outcome.{tys_found, is_met, has_con_counts, has_counts, passes, may_call, Signature, signature_of, Part, part_of, part_found, variable_found, type_of_variable, kind_found, con_found, call_found, arguments_found}
 use Rattle.px_types.proofs.Exact.{Exact, Both, Either, first, later, exact_as, exact_at, exact_ok, exact_needs, exact_there, exact_then, Every, AllTwo, OneOfTwo}
 use Rattle.px_types.proofs.Exact as exact
 use Rattle.px_types.proofs.TypesExact.{exact_types, same_length, are_types, written_parts, ConParts, con_parts}
 use Rattle.px_types.proofs.Functions.{small_of, all_met, decides_met, decides_none, decides_counts, decides_may_call, TakesTypes, no_signature, function_of, function_is, function_counts, function_types}
 use Rattle.px_types.proofs.ArgumentsExact.{written_of, IsRightFun, exact_arguments, right_funs, right_arguments, all_right_funs, are_right_arguments, Found, found_arguments, broken_arguments, arguments_broken}
-use Rattle.px_types.proofs.TermsExact.{IsOpen, type_is_met, TermIsExact, IsPart, BreaksPart, exact_parts, terms_of, have_types, all_parts, are_typed, FoundParts, found_parts, broken_parts, parts_broken}
+use Rattle.px_types.proofs.TermsExact.{type_is_met, TermIsExact, IsPart, BreaksPart, exact_parts, terms_of, have_types, all_parts, are_typed, FoundParts, found_parts, broken_parts, parts_broken}
 
 one_some : {X : Type 0} {x y : X} → Some x ≡ Some y → x ≡ y
 one_some e = cc
@@ -192,7 +193,7 @@ two_lengths : {E : Env} {bound : List Ty} {raws : List RawTerm} {types : List Ty
 two_lengths exact.none = refl
 two_lengths (exact.more is are) = ap suc (two_lengths are)
 
-module _ (E : Env) (open_ : IsOpen E) (bound : List Ty) (at : ℕ) where
+module _ (E : Env) (open_ : IsDeclaring E) (bound : List Ty) (at : ℕ) where
   -- What a typed construction is made of.
   record ConTaken (d k : ℕ) (raw_types : List RawTy) (fields : List RawTerm) (t : Term) (T : Ty) : Type 0 where
     types : List Ty

@@ -10,3 +10,7 @@ pub mod ArgumentsExact
 pub mod TermShapes
 pub mod TermsExact
 pub mod LayersExact
+pub mod SlotLemmas
+pub mod ArmsExact
+pub mod MatchExact
+pub mod AllExact

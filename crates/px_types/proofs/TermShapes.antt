@@ -54,7 +54,7 @@ module _ (E : Env) where
   Kinds = ℕ → List Ty → Result Typed Broken
 
   -- an arm with what is found of its body
-  pub arm_part : RawArm → ArmPart
+  unfoldable pub arm_part : RawArm → ArmPart
   arm_part arm = record { at = arm.at; datatype = arm.datatype; con = arm.con; vars = arm.vars; body = part_of E arm.body }
 
   abbrev pub layer_found : RawKind-F RawKind RawArm RawTerm → ℕ → List Ty → Result Typed Broken

@@ -35,19 +35,15 @@ use Rattle.px_types.specs.Written.{IsTermLayer, AreTerms}
 use Rattle.px_types.specs.Written as written
 use Rattle.px_types.specs.Faults.{Broken, breaks, Env, Counts, counts_of, con_counts, HasCounts, Begins, AreRight, BreaksTys, IsTyped, AreTyped, Breaks, BreaksParts}
 use Rattle.px_types.specs.Faults as faults
+use Rattle.px_types.specs.Laws.{IsDeclaring}
 use Rattle.px_types.specs.Outcomes.{onward, needs, there, each_two}
 use Rattle.px_types.specs.Outcome.{tys_found, is_met, same, Part, part_of, part_found, variable_found, type_of_variable, kind_found, term_found}
 use Rattle.px_types.proofs.Exact.{Exact, Both, Either, first, later, exact_as, exact_at, exact_ok, exact_needs, exact_there, exact_then, Every, AllTwo, OneOfTwo, exact_each_two}
 use Rattle.px_types.proofs.Exact as exact
 use Rattle.px_types.proofs.TypesExact.{exact_types, same_length, are_types}
 use Rattle.px_types.proofs.Sameness.{decides_same}
-use Rattle.px_types.proofs.Functions.{IsPlaced, decides_met, decides_none}
+use Rattle.px_types.proofs.Functions.{decides_met, decides_none}
 use Rattle.px_types.proofs.TermShapes.{part_at}
-
--- A declaration is looked at: its place is one in the text, and each datatype so far has a constructor.
-pub record IsOpen (E : Env) : Type 0 where
-  pub placed : IsPlaced E.place
-  pub some : (d : ℕ) (D : DataDef) → slice_get E.program.datatypes d ≡ Some D → 0 < length D.cons
 
 -- what a typed term's type is
 module _ (P : Program) (place : Place) (context : Context) (some : (d : ℕ) (D : DataDef) → slice_get P.datatypes d ≡ Some D → 0 < length D.cons) where
@@ -81,7 +77,7 @@ module _ (E : Env) where
     in_part : IsMet E.place wanted → Breaks E bound raw.at (out-RawKind raw.kind) fault → BreaksPart bound raw wanted fault
     other_type : {t : Term} {U : Ty} → IsMet E.place wanted → IsTyped E bound (out-RawKind raw.kind) t U → (U ≡ wanted → ⊥) → fault ≡ breaks Mismatch raw.at → BreaksPart bound raw wanted fault
 
-module _ (E : Env) (open_ : IsOpen E) where
+module _ (E : Env) (open_ : IsDeclaring E) where
   exact_part : (bound : List Ty) (raw : RawTerm) → TermIsExact E raw → (wanted : Ty) → Exact (part_found E bound (part_of E raw) wanted) (λ (t : Term). IsTyped E bound (out-RawKind raw.kind) t wanted) (BreaksPart E bound raw wanted)
   unfolding part_found term_found
   exact_part bound raw ih wanted = exact_as
