@@ -21,6 +21,7 @@ use Rattle.px_base.specs.declared.raw.RawEquation.{RawEquation}
 use Rattle.px_base.specs.declared.raw.RawLemma.{RawLemma}
 use Rattle.px_base.specs.declared.raw.RawReplica.{RawReplica}
 use Rattle.px_base.specs.declared.raw.RawProgram.{RawProgram}
+use Rattle.px_base.specs.declared.names.Names.{Names}
 use Rattle.px_terms.specs.declared.types.Ty.{Ty}
 use Rattle.px_terms.specs.declared.types.FnType.{FnType}
 use Rattle.px_terms.specs.declared.types.Fun.{Fun}
@@ -124,13 +125,19 @@ pub data AreNext (raw : RawProgram) : Program → List Decl → Program → Type
   none : {P : Program} → AreNext raw P [] P
   more : {P Q R : Program} {d : Decl} {rest : List Decl} → IsNext raw P d Q → AreNext raw Q rest R → AreNext raw P (d ∷ rest) R
 
--- the program of no declarations: `Bool` alone
-abbrev pub start : RawProgram → Program
-start raw = record { datatypes = bool_data ∷ []; defs = []; lemmas = []; declared = []; replicas = []; names = raw.names }
+-- no names
+abbrev pub no_names : Names
+no_names = record { datatypes = []; cons = []; defs = []; lemmas = []; replicas = [] }
 
--- The written program is typed, and is this one.
+-- the program of no declarations: `Bool` alone, and no name yet
+abbrev pub start : Program
+start = record { datatypes = bool_data ∷ []; defs = []; lemmas = []; declared = []; replicas = []; names = no_names }
+
+-- The written program is typed, and is this one: the declarations in turn make it, but for its names.
 pub record IsProgramOf (raw : RawProgram) (P : Program) : Type 0 where
-  pub typed : AreNext raw (start raw) raw.order P
+  pub nameless : Program
+  pub typed : AreNext raw start raw.order nameless
+  pub named : P ≡ record nameless { names = raw.names }
 
 -- the types that are written in function types, from left to right
 abbrev pub fn_types_written : List RawFnType → List RawTy
@@ -262,5 +269,5 @@ pub record IsFault (raw : RawProgram) (fault : Broken) : Type 0 where
   pub after : List Decl
   pub P : Program
   pub order : raw.order ≡ before ++ next ∷ after
-  pub typed : AreNext raw (start raw) before P
+  pub typed : AreNext raw start before P
   pub broken : BreaksNext raw P next fault

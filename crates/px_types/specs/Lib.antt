@@ -5,3 +5,5 @@ pub mod Outcomes
 pub mod Outcome
 pub mod Answers
 pub mod Laws
+pub mod NextOutcome
+pub mod ProgramLaws
