@@ -1,11 +1,10 @@
 -- The parts of a program that the declarations make can be numbered.
-use Rattle.std.proofs.Common.{◌≡◌, ℕ, ◌+◌, ◌<◌, ◌≤◌, ◌^◌, List, [], ◌∷◌, ◌++◌, length, map, replicate, Option, Some, None, refl, sym, ◌∙◌, ap, subst, arith, lit<}
+use Rattle.std.proofs.Common.{◌≡◌, ℕ, ◌+◌, ◌<◌, ◌≤◌, ◌^◌, List, [], ◌∷◌, ◌++◌, length, replicate, Some, refl, sym, ◌∙◌, ap, subst, arith, lit<}
 use Rattle.std.specs.Prelude.{slice_get}
 use Rattle.std.proofs.lemmas.List.{length-map, length-append, length-replicate}
 use Rattle.px_base.specs.declared.limits.TheConstants.{CLAUSE_VARIABLES}
 use Rattle.px_base.specs.declared.prop.Prop.{Prop}
 use Rattle.px_base.specs.declared.prop.Prop.TheVariants.{Comm, Assoc, Idem, Sel, Refl, Irrefl, Sym, Antisym, Asym, Trans, Conn}
-use Rattle.px_base.specs.declared.head.Head.{Head}
 use Rattle.px_base.specs.declared.head.Head.TheVariants.{Def, Wle, Weq, FnVar}
 use Rattle.px_base.specs.declared.raw.Decl.{Decl}
 use Rattle.px_base.specs.declared.raw.RawProgram.{RawProgram}
@@ -20,7 +19,7 @@ use Rattle.px_terms.specs.declared.program.Declared.{Declared}
 use Rattle.px_terms.specs.declared.program.Declared.TheVariants as declared
 use Rattle.px_terms.specs.declared.program.Program.{Program}
 use Rattle.px_terms.specs.declared.sequent.Context.{Context}
-use Rattle.px_terms.specs.Types.{ty_instance, tys_instance}
+use Rattle.px_terms.specs.Types.{ty_instance}
 use Rattle.px_terms.specs.Typing.{IsFunction}
 use Rattle.px_terms.specs.Typing as typing
 use Rattle.px_terms.specs.Clauses.{Subject, says, IsClauseOf}
@@ -28,10 +27,10 @@ use Rattle.px_terms.specs.Clauses as clauses
 use Rattle.px_terms.specs.Obligations.{lemma_clause, IsDeclaredClause, IsObligation}
 use Rattle.px_terms.specs.Obligations as obligations
 use Rattle.px_terms.specs.Numbered.{HasNumberedVariables, HasNumbers}
-use Rattle.px_terms.specs.TypedPrograms.{Fits, IsTypedProperty, IsTypedLemma}
+use Rattle.px_terms.specs.TypedPrograms.{Fits}
 use Rattle.px_types.specs.Declarations.{AreNext, start}
 use Rattle.px_types.proofs.Appending.{one_item}
-use Rattle.px_types.proofs.Reached.{left_count, IsReached, IsTaken, reached_by}
+use Rattle.px_types.proofs.Reached.{left_count, IsReached, reached_by}
 
 -- how many of x, y and z a property names does not hang on what it is said of
 same_named : (s t : Subject) (p : Prop) → (says s p).named ≡ (says t p).named

@@ -1,14 +1,13 @@
 -- Typing is carried along between programs that agree: clauses and declarations. And which programs agree.
-use Rattle.std.proofs.Common.{◌≡◌, ◌⊎◌, inl, inr, ℕ, ◌≤◌, List, [], ◌∷◌, ◌++◌, length, Option, Some, None, refl, sym, ◌∙◌, ap, subst}
+use Rattle.std.proofs.Common.{◌≡◌, ◌⊎◌, inl, inr, ℕ, List, [], ◌∷◌, ◌++◌, length, Some, refl, sym, ◌∙◌, ap, subst}
 use Rattle.std.specs.Prelude.{slice_get}
 use Rattle.std.specs.List.{All}
 use Rattle.std.specs.Option.{IsSomeAnd}
 use Rattle.std.proofs.lemmas.List.Elements.{All-weaker}
 use Rattle.px_base.specs.declared.prop.Prop.{Prop}
 use Rattle.px_base.specs.declared.head.Head.{Head}
-use Rattle.px_base.specs.declared.head.Head.TheVariants.{Def, FnVar}
+use Rattle.px_base.specs.declared.head.Head.TheVariants.{Def}
 use Rattle.px_base.specs.declared.names.Names.{Names}
-use Rattle.px_base.specs.PropSets.{HasProp}
 use Rattle.px_terms.specs.declared.types.FnType.{FnType}
 use Rattle.px_terms.specs.declared.types.Fun.{Fun}
 use Rattle.px_terms.specs.declared.clause.Equation.{Equation}
@@ -24,9 +23,9 @@ use Rattle.px_terms.specs.Types.{own_types, own_functions}
 use Rattle.px_terms.specs.Typing.{Place, behind}
 use Rattle.px_terms.specs.Clauses.{Subject, HasResult, clause_for, functions_alone, IsSubject, IsClauseOf}
 use Rattle.px_terms.specs.Clauses as clauses
-use Rattle.px_terms.specs.TypedPrograms.{IsWritten, Fits, AreWrittenFnTypes, HasSignature, IsTypedDef, IsTypedProperty, AreSidesTyped, lemma_context, IsTypedLemma, IsJoin, IsTypedReplica}
+use Rattle.px_terms.specs.TypedPrograms.{Fits, AreWrittenFnTypes, HasSignature, IsTypedDef, IsTypedProperty, AreSidesTyped, lemma_context, IsTypedLemma, IsJoin, IsTypedReplica}
 use Rattle.px_types.specs.Declarations.{with_datatype, with_definition, with_obligations, with_lemma, with_replica}
-use Rattle.px_types.proofs.Appending.{There, some_and, get_left, get_last, IsLast, last_cases}
+use Rattle.px_types.proofs.Appending.{some_and, get_left, get_last, IsLast, last_cases}
 use Rattle.px_types.proofs.Agreement.{AgreeOnTypes, SameSignature, Agrees, written_agrees, all_written_agree, all_fn_types_agree, on_types, definition_there, stands_before_agrees, function_agrees, may_call_agrees, known_agrees, arguments_agree}
 use Rattle.px_types.proofs.TermsAgree.{term_agrees}
 

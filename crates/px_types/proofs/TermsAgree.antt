@@ -1,6 +1,6 @@
 -- Typing is carried along between programs that agree: terms, written ones too.
-use Rattle.std.proofs.Common.{◌≡◌, ℕ, List, [], ◌∷◌, length, Option, Some, None}
-use Rattle.px_base.specs.declared.raw.RawKind.{RawKind, out-RawKind}
+use Rattle.std.proofs.Common.{◌≡◌, ℕ, List, length}
+use Rattle.px_base.specs.declared.raw.RawKind.{RawKind}
 use Rattle.px_base.specs.declared.raw.RawKind.TheOpen.{RawKind-F}
 use Rattle.px_base.specs.declared.raw.RawTerm.{RawTerm}
 use Rattle.px_base.specs.declared.raw.RawArm.{RawArm}
@@ -21,10 +21,9 @@ use Rattle.px_terms.specs.Typing.{Place, HasTypeLayer, HaveTypes, HaveTypesInArm
 use Rattle.px_terms.specs.Typing as typing
 use Rattle.px_types.specs.Written.{HasPattern, IsTermLayer, AreTerms, AreArms}
 use Rattle.px_types.specs.Written as written
-use Rattle.px_types.specs.Faults.{IsTyped}
 use Rattle.px_types.specs.Declarations.{IsEquation, AreEquations, IsLemma, IsReplica}
 use Rattle.px_types.specs.Declarations as declarations
-use Rattle.px_types.proofs.Appending.{There, there_of, some_and}
+use Rattle.px_types.proofs.Appending.{there_of, some_and}
 use Rattle.px_types.proofs.Agreement.{Agrees, type_agrees, on_types, constructor_agrees, function_agrees, may_call_agrees, arguments_agree}
 
 -- Typed terms.

@@ -1,8 +1,7 @@
 -- A typed program with one declaration more is typed, where the declaration is typed at its place.
-use Rattle.std.proofs.Common.{◌≡◌, ◌⊎◌, inl, inr, ℕ, zero, suc, ◌+◌, ◌<◌, ◌≤◌, List, [], ◌∷◌, ◌++◌, length, map, Option, Some, None, refl, sym, ◌∙◌, ap, subst, arith}
+use Rattle.std.proofs.Common.{◌≡◌, ◌⊎◌, inl, inr, ℕ, zero, suc, ◌+◌, ◌≤◌, List, [], ◌∷◌, ◌++◌, length, Some, refl, sym, subst, arith}
 use Rattle.std.specs.Prelude.{slice_get}
 use Rattle.std.specs.List.{All}
-use Rattle.std.specs.Option.{IsSomeAnd}
 use Rattle.std.proofs.lemmas.List.Elements.{All-nil, All-cons, All-head, All-tail, All-append, All-weaker}
 use Rattle.px_base.specs.declared.prop.Prop.{Prop}
 use Rattle.px_base.specs.declared.head.Head.TheVariants.{Def}
@@ -12,16 +11,15 @@ use Rattle.px_terms.specs.declared.program.DataDef.{DataDef}
 use Rattle.px_terms.specs.declared.program.Def as definition
 use Rattle.px_terms.specs.declared.program.Lemma as proposition
 use Rattle.px_terms.specs.declared.program.ReplicaDef.{ReplicaDef}
-use Rattle.px_terms.specs.declared.program.Declared.{Declared}
 use Rattle.px_terms.specs.declared.program.Declared.TheVariants as declared
 use Rattle.px_terms.specs.declared.program.Program.{Program}
 use Rattle.px_terms.specs.Programs.{bool_data}
 use Rattle.px_terms.specs.Typing.{StandsBefore}
 use Rattle.px_terms.specs.TypedPrograms.{IsWritten, Fits, IsTypedCon, IsTypedData, IsTypedDef, IsTypedProperty, IsTypedLemma, IsTypedReplica, IsTyped}
 use Rattle.px_types.specs.Declarations.{obligations_of, AllFit, with_datatype, with_definition, with_obligations, with_lemma, with_replica, start}
-use Rattle.px_types.proofs.Appending.{one_item, no_item, There, there_of, some_and, get_left, get_last, Behind, get_cases, IsLast, last_cases}
+use Rattle.px_types.proofs.Appending.{one_item, no_item, there_of, some_and, get_left, get_last, Behind, get_cases, IsLast, last_cases}
 use Rattle.px_types.proofs.Agreement.{Agrees, on_types, typed_data_agrees}
-use Rattle.px_types.proofs.ProgramsAgree.{fits_agrees, typed_def_agrees, typed_property_agrees, typed_lemma_agrees, typed_replica_agrees, agrees_with_datatype, agrees_with_definition, agrees_with_obligations, agrees_with_lemma, agrees_with_replica, agrees_with_names}
+use Rattle.px_types.proofs.ProgramsAgree.{typed_def_agrees, typed_property_agrees, typed_lemma_agrees, typed_replica_agrees, agrees_with_datatype, agrees_with_definition, agrees_with_obligations, agrees_with_lemma, agrees_with_replica, agrees_with_names}
 
 -- a lemma that is an obligation, typed behind the obligations before it
 abbrev pub IsLemmaThere : Program → ℕ → ℕ → Type 0
