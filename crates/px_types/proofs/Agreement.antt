@@ -128,7 +128,7 @@ module _ {P Q : Program} (agree : Agrees P Q) where
   pub stands_before_agrees : (n count : ℕ) → StandsBefore P n count → StandsBefore Q n count
   stands_before_agrees n count h = definition_agrees n (λ (D : definition.Def). D.seen ≤ count) (λ (E : definition.Def). E.seen ≤ count) (λ D E same before. subst (λ (seen : ℕ). seen ≤ count) (sym same.seen) before) h
 
-  own_types_agree : (n : ℕ) (types : List Ty) → AreOwnTypes P n types → AreOwnTypes Q n types
+  pub own_types_agree : (n : ℕ) (types : List Ty) → AreOwnTypes P n types → AreOwnTypes Q n types
   own_types_agree n types h = definition_agrees n (λ (D : definition.Def). types ≡ own_types D.tparams) (λ (E : definition.Def). types ≡ own_types E.tparams) (λ D E same own. own ∙ ap own_types (sym same.tparams)) h
 
   pub may_call_agrees : (place : Place) (h : Head) (types : List Ty) → MayCall P place h types → MayCall Q place h types

@@ -109,11 +109,14 @@ part_below part left whole limit e below = omega arith
 pub few_obligations : {raw : RawProgram} {C : Counts} {P : Program} → IsFitting raw → IsReached raw C P → length P.declared < 2 ^ 32
 few_obligations {raw} {C} {P} fits reached = part_below (length P.declared) (left_count raw C) (obligation_count raw) (2 ^ 32) reached.obligations fits.few
 
+made_below : (taken made written limit : ℕ) → taken ≡ made → taken ≤ written → written < limit → made < limit
+made_below taken made written limit e within below = omega arith
+
 pub few_definitions : {raw : RawProgram} {C : Counts} {P : Program} → IsFitting raw → IsReached raw C P → length P.defs < 2 ^ 32
-few_definitions {raw} {C} {P} fits reached = go C.defs (length P.defs) (length raw.defs) (2 ^ 32) reached.defs reached.within fits.short.defs
-  where
-    go : (taken made written limit : ℕ) → taken ≡ made → taken ≤ written → written < limit → made < limit
-    go taken made written limit e few below = omega arith
+few_definitions {raw} {C} {P} fits reached = made_below C.defs (length P.defs) (length raw.defs) (2 ^ 32) reached.defs reached.within fits.short.defs
+
+pub few_lemmas : {raw : RawProgram} {C : Counts} {P : Program} → IsFitting raw → IsReached raw C P → length P.lemmas < 2 ^ 32
+few_lemmas {raw} {C} {P} fits reached = made_below C.lemmas (length P.lemmas) (length raw.lemmas) (2 ^ 32) reached.lemmas reached.lemmas_within fits.short.lemmas
 
 module _ (raw : RawProgram) (C : Counts) (P : Program) (reached : IsReached raw C P) where
   property_is_numbered : (number n : ℕ) (p : Prop) (clause : Clause) → slice_get P.declared number ≡ Some (declared.Property n p) → IsClauseOf P [] (Def n) p clause → HasNumberedVariables clause
@@ -145,8 +148,14 @@ module _ (raw : RawProgram) (C : Counts) (P : Program) (reached : IsReached raw 
     constructors = λ d D at. reached.few_cons.at d D at;
   }
 
--- at each place of the order there are few enough obligations and definitions
-pub few_so_far : (raw : RawProgram) → IsFitting raw → (before after : List Decl) → raw.order ≡ before ++ after → (P : Program) → AreNext raw start before P → (length P.declared < 2 ^ 32) × (length P.defs < 2 ^ 32)
+-- The obligations, definitions and lemmas so far can be numbered.
+pub record AreFewSoFar (P : Program) : Type 0 where
+  pub obligations : length P.declared < 2 ^ 32
+  pub defs : length P.defs < 2 ^ 32
+  pub lemmas : length P.lemmas < 2 ^ 32
+
+-- at each place of the order they can
+pub few_so_far : (raw : RawProgram) → IsFitting raw → (before after : List Decl) → raw.order ≡ before ++ after → (P : Program) → AreNext raw start before P → AreFewSoFar P
 few_so_far raw fits before after e P typed =
     let taken = reached_by raw fits before after e P typed in
-    (few_obligations fits taken.reached, few_definitions fits taken.reached)
+    record { obligations = few_obligations fits taken.reached; defs = few_definitions fits taken.reached; lemmas = few_lemmas fits taken.reached }

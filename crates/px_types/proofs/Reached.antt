@@ -63,6 +63,7 @@ pub record IsReached (raw : RawProgram) (C : Counts) (P : Program) : Type 0 wher
   pub lemmas : C.lemmas ≡ length P.lemmas
   pub replicas : C.replicas ≡ length P.replicas
   pub within : C.defs ≤ length raw.defs
+  pub lemmas_within : C.lemmas ≤ length raw.lemmas
   pub obligations : length P.declared + left_count raw C ≡ obligation_count raw
   pub seen : Each (IsSeenBy (length P.declared)) P.defs
   pub few_cons : Each HasFewCons P.datatypes
@@ -104,6 +105,9 @@ length_more xs x = length-append xs (x ∷ [])
 one_longer : {X : Type 0} (count : ℕ) (xs : List X) (x : X) → count ≡ length xs → count + 1 ≡ length (xs ++ x ∷ [])
 one_longer count xs x e = ap (λ (n : ℕ). n + 1) e ∙ sym (length_more xs x)
 
+one_within : {X : Type 0} (n : ℕ) (xs : List X) (x : X) → slice_get xs n ≡ Some x → n + 1 ≤ length xs
+one_within n xs x e = let below : n < length xs = slice_get_within xs n x e in omega arith
+
 -- as many as are written
 cons_length : {raws : List RawCon} {cons : List ConDef} → AreCons raws cons → length raws ≡ length cons
 cons_length declarations.none = refl
@@ -142,6 +146,7 @@ module _ (raw : RawProgram) (C : Counts) (P : Program) (reached : IsReached raw 
     lemmas = reached.lemmas;
     replicas = reached.replicas;
     within = reached.within;
+    lemmas_within = reached.lemmas_within;
     obligations = reached.obligations;
     seen = reached.seen;
     few_cons = each_pushed HasFewCons P.datatypes D reached.few_cons (few_of (length d.cons) (length D.cons) (2 ^ 32) (cons_length is.cons) fits.few);
@@ -156,7 +161,8 @@ module _ (raw : RawProgram) (C : Counts) (P : Program) (reached : IsReached raw 
     defs = one_longer C.defs P.defs D reached.defs;
     lemmas = reached.lemmas;
     replicas = reached.replicas;
-    within = (let below : C.defs < length raw.defs = slice_get_within raw.defs C.defs d stands in omega arith);
+    within = one_within C.defs raw.defs d stands;
+    lemmas_within = reached.lemmas_within;
     obligations = def_balance (length P.declared) (length d.props) (def_props (drop C.defs raw.defs)) (length (P.declared ++ obligations_of C.defs d.props)) (def_props (drop (C.defs + 1) raw.defs)) (claim_props (drop C.claims raw.claims)) (length (drop C.lemmas raw.lemmas)) (obligation_count raw) more (defs_left raw.defs C.defs d stands) reached.obligations;
     seen = seen_later (length P.declared) (length (P.declared ++ obligations_of C.defs d.props)) (P.defs ++ D ∷ []) longer (each_pushed (IsSeenBy (length P.declared)) P.defs D reached.seen seen_here);
     few_cons = reached.few_cons;
@@ -184,6 +190,7 @@ module _ (raw : RawProgram) (C : Counts) (P : Program) (reached : IsReached raw 
     lemmas = reached.lemmas;
     replicas = reached.replicas;
     within = reached.within;
+    lemmas_within = reached.lemmas_within;
     obligations = claim_balance (length P.declared) (length c.props) (claim_props (drop C.claims raw.claims)) (length (P.declared ++ obligations_of c.def c.props)) (claim_props (drop (C.claims + 1) raw.claims)) (def_props (drop C.defs raw.defs)) (length (drop C.lemmas raw.lemmas)) (obligation_count raw) more (claims_left raw.claims C.claims c stands) reached.obligations;
     seen = seen_later (length P.declared) (length (P.declared ++ obligations_of c.def c.props)) P.defs longer reached.seen;
     few_cons = reached.few_cons;
@@ -210,6 +217,7 @@ module _ (raw : RawProgram) (C : Counts) (P : Program) (reached : IsReached raw 
     lemmas = one_longer C.lemmas P.lemmas L reached.lemmas;
     replicas = reached.replicas;
     within = reached.within;
+    lemmas_within = one_within C.lemmas raw.lemmas l stands;
     obligations = lemma_balance (length P.declared) (length (drop C.lemmas raw.lemmas)) (length (P.declared ++ declared.Lemma (length P.lemmas) ∷ [])) (length (drop (C.lemmas + 1) raw.lemmas)) (def_props (drop C.defs raw.defs)) (claim_props (drop C.claims raw.claims)) (obligation_count raw) more (lemmas_left raw.lemmas C.lemmas l stands) reached.obligations;
     seen = seen_later (length P.declared) (length (P.declared ++ declared.Lemma (length P.lemmas) ∷ [])) P.defs longer reached.seen;
     few_cons = reached.few_cons;
@@ -231,6 +239,7 @@ module _ (raw : RawProgram) (C : Counts) (P : Program) (reached : IsReached raw 
     lemmas = reached.lemmas;
     replicas = one_longer C.replicas P.replicas r reached.replicas;
     within = reached.within;
+    lemmas_within = reached.lemmas_within;
     obligations = reached.obligations;
     seen = reached.seen;
     few_cons = reached.few_cons;
@@ -289,6 +298,7 @@ start_is_reached raw = record {
   lemmas = refl;
   replicas = refl;
   within = omega arith;
+  lemmas_within = omega arith;
   obligations = zero-add (obligation_count raw);
   seen = each_none (IsSeenBy 0);
   few_cons = each_pushed HasFewCons [] bool_data (each_none HasFewCons) (lit< tt);
@@ -305,6 +315,7 @@ names_are_reached {P} reached names = record {
   lemmas = reached.lemmas;
   replicas = reached.replicas;
   within = reached.within;
+  lemmas_within = reached.lemmas_within;
   obligations = reached.obligations;
   seen = reached.seen;
   few_cons = reached.few_cons;

@@ -21,6 +21,8 @@ use Rattle.px_terms.specs.Typing.{Place, HasTypeLayer, HaveTypes, HaveTypesInArm
 use Rattle.px_terms.specs.Typing as typing
 use Rattle.px_types.specs.Written.{HasPattern, IsTermLayer, AreTerms, AreArms}
 use Rattle.px_types.specs.Written as written
+use Rattle.px_types.specs.Faults.{Env, IsTyped, AreTyped}
+use Rattle.px_types.specs.Faults as faults
 use Rattle.px_types.specs.Declarations.{IsEquation, AreEquations, IsLemma, IsReplica}
 use Rattle.px_types.specs.Declarations as declarations
 use Rattle.px_types.proofs.Appending.{there_of, some_and}
@@ -81,3 +83,16 @@ module _ {P Q : Program} (agree : Agrees P Q) where
 
   pub raw_replica_agrees : {seen : ℕ} {raw : RawReplica} {r : ReplicaDef} → IsReplica P seen raw r → IsReplica Q seen raw r
   raw_replica_agrees is = record { state = is.state; from = raw_term_agrees is.from; merge = is.merge; funs = is.funs; stands = is.stands }
+
+-- Written terms with their types.
+module _ {P Q : Program} (agree : Agrees P Q) (place : Place) (context : Context) where
+  -- what is in scope at the place in a program
+  abbrev pub scope_in : Program → Env
+  scope_in R = record { program = R; place = place; context = context }
+
+  pub typed_agrees : {bound : List Ty} {layer : RawKind-F RawKind RawArm RawTerm} {t : Term} {T : Ty} → IsTyped (scope_in P) bound layer t T → IsTyped (scope_in Q) bound layer t T
+  typed_agrees typed = record { is = raw_term_agrees agree typed.is; has = term_agrees agree typed.has }
+
+  pub all_typed_agree : {bound : List Ty} {raws : List RawTerm} {types : List Ty} → AreTyped (scope_in P) bound raws types → AreTyped (scope_in Q) bound raws types
+  all_typed_agree faults.none = faults.none
+  all_typed_agree (faults.more is are) = faults.more (typed_agrees is) (all_typed_agree are)
