@@ -123,9 +123,9 @@ module _ {P Q : Program} (agree : Agrees P Q) where
       let there = definition_there n D stands in
       let same : SameSignature D there.item = there.holds in
       typing.of_definition there.is (count ∙ sym same.tparams) (types_agree on_types are)
-          (takes ∙ ap (λ (funs : List FnType). map (fn_type_instance types) funs) (sym same.funs))
-          (params ∙ ap (tys_instance types) (sym same.params))
-          (result ∙ ap (ty_instance types) (sym same.result))
+      (takes ∙ ap (λ (funs : List FnType). map (fn_type_instance types) funs) (sym same.funs))
+      (params ∙ ap (tys_instance types) (sym same.params))
+      (result ∙ ap (ty_instance types) (sym same.result))
   function_agrees (typing.at_most result) = typing.at_most result
   function_agrees (typing.equal result) = typing.equal result
   function_agrees (typing.of_variable stands params result) = typing.of_variable stands params result

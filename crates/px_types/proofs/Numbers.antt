@@ -82,8 +82,8 @@ clause_counts {n = n} {p = p} {clause = clause} (clauses.of_definition {D = E} s
     let taken : length is.params ≡ length D.params = params_of is.function n refl D at in
     let shape : length is.params ≡ length s.leading + 2 = ap length is.shape ∙ length-append s.leading (s.last ∷ s.last ∷ []) in
     let vars : length clause.vars ≡ length s.leading + (says s p).named =
-        ap (λ (c : Clause). length c.vars) e ∙ length-append s.leading (replicate (says s p).named s.last) ∙ ap (λ (k : ℕ). length s.leading + k)
-            (length-replicate (says s p).named s.last)
+    ap (λ (c : Clause). length c.vars) e ∙ length-append s.leading (replicate (says s p).named s.last) ∙ ap (λ (k : ℕ). length s.leading + k)
+    (length-replicate (says s p).named s.last)
     in
     record {
       s = s;
@@ -101,7 +101,7 @@ few_variables {p = p} {clause = clause} is fits D at =
     let own = clause_counts is D at in
     let other = clause_counts fits.says D at in
     as_few (length clause.vars) (length fits.clause.vars) (length D.params) (says own.s p).named (says other.s p).named CLAUSE_VARIABLES own.vars
-        other.vars (same_named own.s other.s p) fits.few
+    other.vars (same_named own.s other.s p) fits.few
   where
     as_few : (vars others params named also most : ℕ) → vars + 2 ≡ params + named → others + 2 ≡ params + also → named ≡ also → others ≤ most → vars ≤ most
     as_few vars others params named also most e f g few = omega arith

@@ -51,7 +51,7 @@ module _ {P Q : Program} (agree : Agrees P Q) where
   own_agrees : (n : ℕ) (s : Subject) (D E : definition.Def) → SameSignature D E → IsOwn P n s D.tparams D.funs → IsOwn Q n s E.tparams E.funs
   own_agrees n s D E same is =
       subst (λ (tparams : ℕ). IsOwn Q n s tparams E.funs) (sym same.tparams)
-          (subst (λ (funs : List FnType). IsOwn Q n s D.tparams funs) (sym same.funs) (subject_agrees is))
+      (subst (λ (funs : List FnType). IsOwn Q n s D.tparams funs) (sym same.funs) (subject_agrees is))
 
   own_clause : (p : Prop) (s : Subject) (D E : definition.Def) → SameSignature D E → clause_for s p D.tparams D.funs ≡ clause_for s p E.tparams E.funs
   own_clause p s D E same = λ i. clause_for s p (sym same.tparams i) (sym same.funs i)
@@ -187,7 +187,7 @@ agrees_with_body P D E same = record { datatypes = λ d F e. e; defs = λ n F e.
     go n F (inl e) = kept_defs P.defs (E ∷ []) n F e
     go n F (inr last) =
         some_and (slice_get (P.defs ++ E ∷ []) n) (SameSignature F) E (ap (slice_get (P.defs ++ E ∷ [])) last.place ∙ get_last P.defs E)
-            (subst (λ (G : definition.Def). SameSignature G E) last.same same)
+        (subst (λ (G : definition.Def). SameSignature G E) last.same same)
 
 -- a datatype whose constructors are not looked at yet
 pub types_agree_with_constructors : (P : Program) (D E : DataDef) → E.tparams ≡ D.tparams → AgreeOnTypes (with_datatype P D) (with_datatype P E)
@@ -198,4 +198,4 @@ types_agree_with_constructors P D E same = record { datatypes = λ d F e. go d F
     go d F (inl e) = some_and (slice_get (P.datatypes ++ E ∷ []) d) (λ (G : DataDef). G.tparams ≡ F.tparams) F (get_left P.datatypes (E ∷ []) d F e) refl
     go d F (inr last) =
         some_and (slice_get (P.datatypes ++ E ∷ []) d) (λ (G : DataDef). G.tparams ≡ F.tparams) E
-            (ap (slice_get (P.datatypes ++ E ∷ [])) last.place ∙ get_last P.datatypes E) (same ∙ ap (λ (G : DataDef). G.tparams) last.same)
+        (ap (slice_get (P.datatypes ++ E ∷ [])) last.place ∙ get_last P.datatypes E) (same ∙ ap (λ (G : DataDef). G.tparams) last.same)

@@ -59,7 +59,7 @@ module _ {P Q : Program} (agree : Agrees P Q) where
   pattern_agrees arm h =
       let here = there_of (constructor_at P arm.datatype arm.con) (λ (c : ConDef). length arm.vars ≡ length c.fields) h in
       some_and (constructor_at Q arm.datatype arm.con) (λ (c : ConDef). length arm.vars ≡ length c.fields) here.item
-          (constructor_agrees agree arm.datatype arm.con here.item here.is) here.holds
+      (constructor_agrees agree arm.datatype arm.con here.item here.is) here.holds
 
   mutual
     pub raw_term_agrees : {layer : RawKind-F RawKind RawArm RawTerm} {t : Term} → IsTermLayer P layer t → IsTermLayer Q layer t

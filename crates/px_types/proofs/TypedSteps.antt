@@ -103,7 +103,7 @@ module _ (P : Program) (typed : IsTyped P) where
       go n E (inl e) = typed_def_agrees (agrees_with_definition P D) (typed.defs n E e)
       go n E (inr last) =
           subst (λ (m : ℕ). IsTypedDef (with_definition P D) m E) (sym last.place)
-              (subst (λ (F : definition.Def). IsTypedDef (with_definition P D) (length P.defs) F) last.same is)
+          (subst (λ (F : definition.Def). IsTypedDef (with_definition P D) (length P.defs) F) last.same is)
 
 -- The property is one of this definition, and fits it.
 record FitsThere (P : Program) (n m : ℕ) (p : Prop) : Type 0 where
