@@ -14,3 +14,10 @@ pub mod SlotLemmas
 pub mod ArmsExact
 pub mod MatchExact
 pub mod AllExact
+pub mod Appending
+pub mod Agreement
+pub mod TermsAgree
+pub mod ProgramsAgree
+pub mod TypedSteps
+pub mod Reached
+pub mod Numbers

@@ -6,6 +6,7 @@
 mod ends;
 mod laws;
 mod typed;
+mod typed_laws;
 mod types;
 
 pub use ends::{TypeEnd, TypeKind};
@@ -13,4 +14,5 @@ pub use laws::{
     always_one, arguments_are_found, arguments_break_as_found, never_both, one_fault, one_typing, parts_are_found, parts_break_as_found, terms_are_found, terms_break_as_found, types_are_found, types_break_as_found,
 };
 pub use typed::Typed;
+pub use typed_laws::{programs_are_typed, programs_have_numbers};
 pub use types::{type_ty, type_tys};
