@@ -64,29 +64,33 @@ abbrev FieldsBreak : Program → RawData → Broken → Type 0
 FieldsBreak P d b = BreaksTys (with_datatype P (without_constructors d)) d.tparams (fields_written d.cons) b
 
 module _ (raw : RawProgram) (P : Program) where
-  next_datatype : {n : ℕ} {d : RawData} → slice_get raw.datatypes n ≡ Some d → next_found raw P (decl.Datatype n) ≡ datatype_found P d
+  next_datatype : (n : ℕ) (d : RawData) → slice_get raw.datatypes n ≡ Some d → next_found raw P (decl.Datatype n) ≡ datatype_found P d
   unfolding next_found types_found terms_found
-  next_datatype {n} {d} e = rw e (looked_again (datatype_found P d))
+  next_datatype n d e = ap (λ (o : Option RawData). onward (elim o as (λ _. Result (Unit {0}) Broken) [ None ↦ Ok tt | Some x ↦ checked (datatype_found P x) ]) (λ _. elim o as (λ _. Result Program Broken) [ None ↦ Ok P | Some x ↦ datatype_found P x ])) e ∙ looked_again (datatype_found P d)
 
-  next_definition : {n : ℕ} {d : RawDef} → slice_get raw.defs n ≡ Some d → next_found raw P (decl.Definition n) ≡ onward (signature_found P d) (λ _. body_found P d)
+  next_definition : (n : ℕ) (d : RawDef) → slice_get raw.defs n ≡ Some d → next_found raw P (decl.Definition n) ≡ onward (signature_found P d) (λ _. body_found P d)
   unfolding next_found types_found terms_found
-  next_definition e = rw e refl
+  next_definition n d e = ap (λ (o : Option RawDef). onward (elim o as (λ _. Result (Unit {0}) Broken) [ None ↦ Ok tt | Some x ↦ signature_found P x ]) (λ _. elim o as (λ _. Result Program Broken) [ None ↦ Ok P | Some x ↦ body_found P x ])) e
 
-  next_claim : {n : ℕ} {c : RawClaim} → slice_get raw.claims n ≡ Some c → next_found raw P (decl.Claim n) ≡ onward (claim_found P c) (λ _. Ok (with_obligations P (obligations_of c.def c.props)))
+  next_claim : (n : ℕ) (c : RawClaim) → slice_get raw.claims n ≡ Some c → next_found raw P (decl.Claim n) ≡ onward (claim_found P c) (λ _. Ok (with_obligations P (obligations_of c.def c.props)))
   unfolding next_found types_found terms_found
-  next_claim e = rw e refl
+  next_claim n c e = ap (λ (o : Option RawClaim). onward (elim o as (λ _. Result (Unit {0}) Broken) [ None ↦ Ok tt | Some x ↦ claim_found P x ]) (λ _. elim o as (λ _. Result Program Broken) [ None ↦ Ok P | Some x ↦ Ok (with_obligations P (obligations_of x.def x.props)) ])) e
 
-  next_lemma : {n : ℕ} {l : RawLemma} → slice_get raw.lemmas n ≡ Some l → next_found raw P (decl.Lemma n) ≡ onward (variables_found P l) (λ _. equations_found P l)
+  next_lemma : (n : ℕ) (l : RawLemma) → slice_get raw.lemmas n ≡ Some l → next_found raw P (decl.Lemma n) ≡ onward (variables_found P l) (λ _. equations_found P l)
   unfolding next_found types_found terms_found
-  next_lemma e = rw e refl
+  next_lemma n l e = ap (λ (o : Option RawLemma). onward (elim o as (λ _. Result (Unit {0}) Broken) [ None ↦ Ok tt | Some x ↦ variables_found P x ]) (λ _. elim o as (λ _. Result Program Broken) [ None ↦ Ok P | Some x ↦ equations_found P x ])) e
 
-  next_replica : {n : ℕ} {r : RawReplica} → slice_get raw.replicas n ≡ Some r → next_found raw P (decl.Replica n) ≡ merge_found P r
-  unfolding next_found types_found terms_found merge_found
-  next_replica {n} {r} e = rw e (looked_twice (state_found P r) _)
+  state_twice : (r : RawReplica) → onward (checked (state_found P r)) (λ _. merge_found P r) ≡ merge_found P r
+  unfolding merge_found
+  state_twice r = looked_twice (state_found P r) _
+
+  next_replica : (n : ℕ) (r : RawReplica) → slice_get raw.replicas n ≡ Some r → next_found raw P (decl.Replica n) ≡ merge_found P r
+  unfolding next_found types_found terms_found
+  next_replica n r e = ap (λ (o : Option RawReplica). onward (elim o as (λ _. Result (Unit {0}) Broken) [ None ↦ Ok tt | Some x ↦ checked (state_found P x) ]) (λ _. elim o as (λ _. Result Program Broken) [ None ↦ Ok P | Some x ↦ merge_found P x ])) e ∙ state_twice r
 
   -- each kind of declaration in the words of the rules
   exact_next_datatype : (n : ℕ) (d : RawData) → slice_get raw.datatypes n ≡ Some d → 0 < length d.cons → Exact (next_found raw P (decl.Datatype n)) (IsNext raw P (decl.Datatype n)) (BreaksNext raw P (decl.Datatype n))
-  exact_next_datatype n d e some = exact_at (next_datatype e) (exact_as (exact_datatype P d some)
+  exact_next_datatype n d e some = exact_at (next_datatype n d e) (exact_as (exact_datatype P d some)
       (λ Q step. IsNext.datatype e step.is step.typed step.same)
       (λ Q next. step next)
       (λ b br. BreaksNext.datatype e br)
@@ -99,7 +103,7 @@ module _ (raw : RawProgram) (P : Program) where
       wrong {b} (BreaksNext.datatype {d = x} stands br) = subst (λ (y : RawData). FieldsBreak P y b) (one_some (sym stands ∙ e)) br
 
   exact_next_definition : (n : ℕ) (d : RawDef) → slice_get raw.defs n ≡ Some d → HaveConstructors P → n ≡ length P.defs → Exact (next_found raw P (decl.Definition n)) (IsNext raw P (decl.Definition n)) (BreaksNext raw P (decl.Definition n))
-  exact_next_definition n d e some at = exact_at (next_definition e) (exact_as (exact_definition P d some n at)
+  exact_next_definition n d e some at = exact_at (next_definition n d e) (exact_as (exact_definition P d some n at)
       (λ Q step. IsNext.definition e step.signature step.is step.typed step.fit step.same)
       (λ Q next. step next)
       (λ b br. BreaksNext.definition e br)
@@ -112,7 +116,7 @@ module _ (raw : RawProgram) (P : Program) where
       wrong {b} (BreaksNext.definition {d = x} stands br) = subst (λ (y : RawDef). BreaksDef P y b) (one_some (sym stands ∙ e)) br
 
   exact_next_claim : (n : ℕ) (c : RawClaim) → slice_get raw.claims n ≡ Some c → Exact (next_found raw P (decl.Claim n)) (IsNext raw P (decl.Claim n)) (BreaksNext raw P (decl.Claim n))
-  exact_next_claim n c e = exact_at (next_claim e) (exact_as (exact_claim P c)
+  exact_next_claim n c e = exact_at (next_claim n c e) (exact_as (exact_claim P c)
       (λ Q step. IsNext.claim e step.fit step.same)
       (λ Q next. step next)
       (λ b br. BreaksNext.claim e br)
@@ -125,7 +129,7 @@ module _ (raw : RawProgram) (P : Program) where
       wrong {b} (BreaksNext.claim {c = x} stands br) = subst (λ (y : RawClaim). BreaksProps P [] (Def y.def) y.props b) (one_some (sym stands ∙ e)) br
 
   exact_next_lemma : (n : ℕ) (l : RawLemma) → slice_get raw.lemmas n ≡ Some l → HaveConstructors P → Exact (next_found raw P (decl.Lemma n)) (IsNext raw P (decl.Lemma n)) (BreaksNext raw P (decl.Lemma n))
-  exact_next_lemma n l e some = exact_at (next_lemma e) (exact_as (exact_lemma P l some)
+  exact_next_lemma n l e some = exact_at (next_lemma n l e) (exact_as (exact_lemma P l some)
       (λ Q step. IsNext.lemma e step.is step.typed step.same)
       (λ Q next. step next)
       (λ b br. BreaksNext.lemma e br)
@@ -138,7 +142,7 @@ module _ (raw : RawProgram) (P : Program) where
       wrong {b} (BreaksNext.lemma {l = x} stands br) = subst (λ (y : RawLemma). BreaksLemma P y b) (one_some (sym stands ∙ e)) br
 
   exact_next_replica : (n : ℕ) (r : RawReplica) → slice_get raw.replicas n ≡ Some r → HaveConstructors P → fitting.IsGround (out-RawKind r.from.kind) → ((types : List Ty) → MayCall P (behind (length P.declared)) r.merge.head types) → Exact (next_found raw P (decl.Replica n)) (IsNext raw P (decl.Replica n)) (BreaksNext raw P (decl.Replica n))
-  exact_next_replica n r e some ground callable = exact_at (next_replica e) (exact_as (exact_replica P r some ground callable)
+  exact_next_replica n r e some ground callable = exact_at (next_replica n r e) (exact_as (exact_replica P r some ground callable)
       (λ Q step. IsNext.replica e step.is step.typed step.same)
       (λ Q next. step next)
       (λ b br. BreaksNext.replica e br)
