@@ -27,3 +27,10 @@ pub mod EquationsExact
 pub mod ReplicasExact
 pub mod NextExact
 pub mod ProgramsExact
+pub mod Appending
+pub mod Agreement
+pub mod TermsAgree
+pub mod ProgramsAgree
+pub mod TypedSteps
+pub mod Reached
+pub mod Numbers

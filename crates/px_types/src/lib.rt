@@ -7,6 +7,7 @@ mod ends;
 mod laws;
 mod program_laws;
 mod typed;
+mod typed_laws;
 mod types;
 
 pub use ends::{TypeEnd, TypeKind};
@@ -15,4 +16,5 @@ pub use laws::{
 };
 pub use program_laws::{always_judged, never_typed_and_broken, one_first_fault, one_program, programs_are_found, programs_break_as_found};
 pub use typed::Typed;
+pub use typed_laws::{programs_are_typed, programs_have_numbers};
 pub use types::{type_ty, type_tys};
