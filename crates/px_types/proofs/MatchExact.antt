@@ -273,7 +273,7 @@ module _ (E : Env) (bound : List Ty) (on : Chosen) (at : ℕ) (declared : slice_
   shows_start = record {
     ty = refl;
     closed = λ k h e. absurd (omega (arith, h.1));
-    opens = λ k below absent. replicate_get (length on.datatype.cons) k (rw (replicate_length {X = Term} (length on.datatype.cons)) at below);
+    opens = λ k below absent. replicate_get (length on.datatype.cons) k (rw (replicate_length (length on.datatype.cons)) at below);
     same = replicate_length (length on.datatype.cons);
   }
 
@@ -298,11 +298,11 @@ module _ (E : Env) (bound : List Ty) (on : Chosen) (at : ℕ) (declared : slice_
     are_fields = refl;
   }
 
-  agree_to : {shown : Shown} {s : Slots} {T : Ty} → Shows shown s → Agrees s.ty T → Agrees shown.T T
-  agree_to {T = T} shows agree = subst (λ (o : Option Ty). Agrees o T) (sym shows.ty) agree
+  agree_to : {shown : Shown} {s : Slots} (T : Ty) → Shows shown s → Agrees s.ty T → Agrees shown.T T
+  agree_to T shows agree = subst (λ (o : Option Ty). Agrees o T) (sym shows.ty) agree
 
-  agree_from : {shown : Shown} {s : Slots} {T : Ty} → Shows shown s → Agrees shown.T T → Agrees s.ty T
-  agree_from {T = T} shows agree = subst (λ (o : Option Ty). Agrees o T) shows.ty agree
+  agree_from : {shown : Shown} {s : Slots} (T : Ty) → Shows shown s → Agrees shown.T T → Agrees s.ty T
+  agree_from T shows agree = subst (λ (o : Option Ty). Agrees o T) shows.ty agree
 
   contained : {shown : Shown} {s : Slots} (arm : RawArm) (c : ConDef) → Shows shown s → PatternIs E arm c → arm.datatype ≡ on.number → (slice_get s.bodies arm.con ≡ Some None → ⊥) → Contains shown.cons arm.con
   contained {shown} arm c shows pattern datatype closed = elim (contains_or shown.cons arm.con) [
@@ -311,7 +311,7 @@ module _ (E : Env) (bound : List Ty) (on : Chosen) (at : ℕ) (declared : slice_
   ]
 
   later_shown : {shown : Shown} {s u : Slots} {arm : RawArm} {arms : List RawArm} {b : Broken} (f : ArmFound E bound on s arm u) → Shows shown s → BreaksArms E bound at on.number on.types (shown_after shown arm f.T) arms b → BreaksArms E bound at on.number on.types shown (arm ∷ arms) b
-  later_shown {shown} {s} {u} {arm} f shows br = faults.later_arm (pattern_is shown s arm f.c shows f.pattern f.datatype f.opens) f.met f.typed (agree_to shows f.agree) br
+  later_shown {shown} {s} {u} {arm} f shows br = faults.later_arm (pattern_is shown s arm f.c shows f.pattern f.datatype f.opens) f.met f.typed (agree_to f.T shows f.agree) br
 
   breaks_to : {s : Slots} {arms : List RawArm} {b : Broken} → ArmsBreak E bound on s arms b → (shown : Shown) → Shows shown s → BreaksArms E bound at on.number on.types shown arms b
   breaks_to {s} (exact.here {x = arm} br) shown shows = elim br [
@@ -320,7 +320,7 @@ module _ (E : Env) (bound : List Ty) (on : Chosen) (at : ℕ) (declared : slice_
     | again {c = c} pattern datatype closed e ↦ faults.repeated (has_pattern E arm c pattern) datatype (contained arm c shows pattern datatype closed) e
     | variable {c = c} pattern datatype opens br ↦ faults.in_variables (pattern_is shown s arm c shows pattern datatype opens) br
     | body {c = c} pattern datatype opens met br ↦ faults.in_arm (pattern_is shown s arm c shows pattern datatype opens) met br
-    | unlike {c = c} pattern datatype opens met typed other e ↦ faults.disagrees (pattern_is shown s arm c shows pattern datatype opens) met typed (λ agree. other (agree_from shows agree)) e
+    | unlike {c = c} {T = T} pattern datatype opens met typed other e ↦ faults.disagrees (pattern_is shown s arm c shows pattern datatype opens) met typed (λ agree. other (agree_from T shows agree)) e
   ]
   breaks_to (exact.behind {x = arm} f br) shown shows = later_shown f shows (breaks_to br (shown_after shown arm f.T) (shows_next f shows))
 
@@ -341,7 +341,7 @@ module _ (E : Env) (bound : List Ty) (on : Chosen) (at : ℕ) (declared : slice_
 
   -- A pattern that is right fits the slots.
   record Fitting (s : Slots) (arm : RawArm) (c : ConDef) : Type 0 where
-    pattern : PatternIs E arm c
+    fits : PatternIs E arm c
     opens : slice_get s.bodies arm.con ≡ Some None
 
   fitting : {shown : Shown} {s : Slots} {arm : RawArm} {fields : List Ty} → Shows shown s → (p : IsPattern E on.number on.types shown arm fields) → Fitting s arm p.con
@@ -349,7 +349,7 @@ module _ (E : Env) (bound : List Ty) (on : Chosen) (at : ℕ) (declared : slice_
       let stands : constructor_at E.program arm.datatype arm.con ≡ Some p.con = rw p.datatype p.stands in
       let pattern : PatternIs E arm p.con = record { stands = stands; count = rw stands at p.count } in
       record {
-        pattern = pattern;
+        fits = pattern;
         opens = shows.opens arm.con (rw shows.same (get_within on.datatype.cons arm.con p.con (con_stands E bound on declared arm p.con pattern p.datatype))) p.once;
       }
 
@@ -357,12 +357,12 @@ module _ (E : Env) (bound : List Ty) (on : Chosen) (at : ℕ) (declared : slice_
   breaks_from (faults.pattern_count wrong e) s shows = among (exact.here (miscounted wrong e))
   breaks_from (faults.other_datatype {arm = arm} has other e) s shows = among (exact.here (elsewhere (pattern_there E arm has).1 other e))
   breaks_from (faults.repeated {arm = arm} has datatype there e) s shows = among (exact.here (again (pattern_there E arm has).1 datatype (λ opens. shows.closed arm.con there opens) e))
-  breaks_from (faults.in_variables p br) s shows = let fit = fitting shows p in among (exact.here (variable fit.pattern p.datatype fit.opens (rw p.are_fields at br)))
-  breaks_from (faults.in_arm p met br) s shows = let fit = fitting shows p in among (exact.here (body fit.pattern p.datatype fit.opens (rw p.are_fields at met) (rw p.are_fields at br)))
-  breaks_from (faults.disagrees p met typed other e) s shows = let fit = fitting shows p in among (exact.here (unlike fit.pattern p.datatype fit.opens (rw p.are_fields at met) (rw p.are_fields at typed) (λ agree. other (agree_to shows agree)) e))
+  breaks_from (faults.in_variables p br) s shows = let fit = fitting shows p in among (exact.here (variable fit.fits p.datatype fit.opens (rw p.are_fields at br)))
+  breaks_from (faults.in_arm p met br) s shows = let fit = fitting shows p in among (exact.here (body fit.fits p.datatype fit.opens (rw p.are_fields at met) (rw p.are_fields at br)))
+  breaks_from (faults.disagrees {T = T} p met typed other e) s shows = let fit = fitting shows p in among (exact.here (unlike fit.fits p.datatype fit.opens (rw p.are_fields at met) (rw p.are_fields at typed) (λ agree. other (agree_to T shows agree)) e))
   breaks_from (faults.later_arm {arm = arm} {t = t} {T = T} p met typed agree br) s shows =
       let fit = fitting shows p in
-      let f : ArmFound E bound on s arm (filled E bound on s arm.con t T) = record { c = p.con; t = t; T = T; pattern = fit.pattern; datatype = p.datatype; opens = fit.opens; met = rw p.are_fields at met; typed = rw p.are_fields at typed; agree = agree_from shows agree; same = refl } in
+      let f : ArmFound E bound on s arm (filled E bound on s arm.con t T) = record { c = p.con; t = t; T = T; pattern = fit.fits; datatype = p.datatype; opens = fit.opens; met = rw p.are_fields at met; typed = rw p.are_fields at typed; agree = agree_from T shows agree; same = refl } in
       behind_one f (breaks_from br (filled E bound on s arm.con t T) (shows_next f shows))
   breaks_from (faults.missing {k = k} {D = D} stands below absent e) s shows =
       let same : D ≡ on.datatype = one_some (sym stands ∙ declared) in
