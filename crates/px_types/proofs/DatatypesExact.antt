@@ -22,7 +22,8 @@ use Rattle.px_types.proofs.Exact.{Exact, Both, Either, first, later, exact_as, e
 use Rattle.px_types.proofs.Exact as exact
 use Rattle.px_types.proofs.TypesExact.{exact_types}
 use Rattle.px_types.proofs.HeadingsExact.{front, behind, split}
-use Rattle.px_types.proofs.SameTypes.{TypesStand, all_stand, last_datatype}
+use Rattle.px_types.proofs.Agreement.{AgreeOnTypes, all_written_agree}
+use Rattle.px_types.proofs.ProgramsAgree.{types_agree_with_constructors}
 
 -- the fields that are written in constructors
 abbrev pub fields_written : List RawCon → List RawTy
@@ -92,14 +93,14 @@ module _ (P : Program) (d : RawData) (some : 0 < length d.cons) where
   so_far = with_datatype P (without_constructors d)
 
   -- the types are the same there and where the constructors are known
-  known : (D : DataDef) → D.tparams ≡ d.tparams → TypesStand so_far (with_datatype P D)
-  known D e = record { each = last_datatype P.datatypes (without_constructors d) D e }
+  known : (D : DataDef) → D.tparams ≡ d.tparams → AgreeOnTypes so_far (with_datatype P D)
+  known D e = types_agree_with_constructors P (without_constructors d) D e
 
-  unknown : (D : DataDef) → D.tparams ≡ d.tparams → TypesStand (with_datatype P D) so_far
-  unknown D e = record { each = last_datatype P.datatypes D (without_constructors d) (sym e) }
+  unknown : (D : DataDef) → D.tparams ≡ d.tparams → AgreeOnTypes (with_datatype P D) so_far
+  unknown D e = types_agree_with_constructors P D (without_constructors d) (sym e)
 
-  cons_stand : (P Q : Program) → TypesStand P Q → (tparams : ℕ) (cons : List ConDef) → All (IsTypedCon P tparams) cons → All (IsTypedCon Q tparams) cons
-  cons_stand P Q stand tparams cons all = All-weaker (IsTypedCon P tparams) (IsTypedCon Q tparams) (λ c typed. all_stand P Q stand tparams c.fields typed) cons all
+  cons_stand : (P Q : Program) → AgreeOnTypes P Q → (tparams : ℕ) (cons : List ConDef) → All (IsTypedCon P tparams) cons → All (IsTypedCon Q tparams) cons
+  cons_stand P Q stand tparams cons all = All-weaker (IsTypedCon P tparams) (IsTypedCon Q tparams) (λ c typed. all_written_agree stand tparams c.fields typed) cons all
 
   step_of : (cons : List ConDef) → AllAre (IsRightCon so_far d.tparams) d.cons cons → DatatypeStep P d (with_datatype P (record { tparams = d.tparams; cons = cons }))
   step_of cons all =

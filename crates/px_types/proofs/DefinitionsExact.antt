@@ -31,25 +31,22 @@ use Rattle.px_types.proofs.Exact.{Exact, Both, Either, first, later, exact_as, e
 use Rattle.px_types.proofs.FitsExact.{fits_again}
 use Rattle.px_types.proofs.PropsExact.{exact_props, exact_assumed, AllAssumed, AssumedOf, assumed_to, assumed_from}
 use Rattle.px_types.proofs.HeadingsExact.{IsRightFnTy, AreRightFnTys, fn_tys_of, fn_types_of, right_fn_types, IsHeading, exact_heading, heading_of, heading_written}
-use Rattle.px_types.proofs.SameTypes.{TypesStand, same_datatypes, written_stands, all_stand, fn_types_stand}
 use Rattle.px_types.proofs.PartsExact.{exact_one_part}
-use Rattle.px_types.proofs.Given.{moves_term, moves_type}
+use Rattle.px_types.proofs.Appending.{get_last, some_and}
+use Rattle.px_types.proofs.Agreement.{AgreeOnTypes, Agrees, written_agrees, all_written_agree, all_fn_types_agree}
+use Rattle.px_types.proofs.TermsAgree.{term_agrees, raw_term_agrees}
+use Rattle.px_types.proofs.ProgramsAgree.{agrees_with_body}
 
 -- each datatype so far has a constructor
 abbrev pub HaveConstructors : Program → Type 0
 HaveConstructors P = (d : ℕ) (D : DataDef) → slice_get P.datatypes d ≡ Some D → 0 < length D.cons
-
--- one more stands at the end
-pub at_end : {X : Type 0} (xs : List X) (x : X) → slice_get (xs ++ x ∷ []) (length xs) ≡ Some x
-at_end [] x = refl
-at_end (y ∷ ys) x = at_end ys x
 
 -- the properties that fit a definition see its type alone
 fit_another : (P : Program) (D E : definition.Def) → D.params ≡ E.params → D.result ≡ E.result → (props : List RawProp) → AllFit (with_definition P D) (length P.defs) props → AllFit (with_definition P E) (length P.defs) props
 fit_another P D E params result props all = All-weaker (λ (raw : RawProp). Fits (with_definition P D) [] (Def (length P.defs)) raw.prop) (λ (raw : RawProp). Fits (with_definition P E) [] (Def (length P.defs)) raw.prop) (λ raw fit. fits_again shapes fit) props all
   where
     shape_at : (F : definition.Def) → shape_of (with_definition P F) [] (Def (length P.defs)) ≡ Some (F.params, F.result)
-    shape_at F = ap (option_map (λ (d : definition.Def). (d.params, d.result))) (at_end P.defs F)
+    shape_at F = ap (option_map (λ (d : definition.Def). (d.params, d.result))) (get_last P.defs F)
 
     shapes : shape_of (with_definition P D) [] (Def (length P.defs)) ≡ shape_of (with_definition P E) [] (Def (length P.defs))
     shapes = shape_at D ∙ (λ i. Some (params i, result i)) ∙ sym (shape_at E)
@@ -91,17 +88,25 @@ module _ (P : Program) (d : RawDef) where
   one_heading : {D E : definition.Def} → IsHeading P d D → IsHeading P d E → D ≡ E
   one_heading {D} {E} a b = one_ok D E (sym ((exact_heading P d).ok D a) ∙ (exact_heading P d).ok E b)
 
+-- where the datatypes are the same, the types are
+same_datatypes : (P Q : Program) → P.datatypes ≡ Q.datatypes → AgreeOnTypes P Q
+same_datatypes P Q e = record { datatypes = λ d D stands. some_and (slice_get Q.datatypes d) (λ (E : DataDef). E.tparams ≡ D.tparams) D (sym (ap (λ (xs : List DataDef). slice_get xs d) e) ∙ stands) refl }
+
+-- programs agree that differ by the body of the last definition
+other_body : (P : Program) (D : definition.Def) (b : Term) → Agrees (with_definition P D) (with_definition P (record D { body = b }))
+other_body P D b = agrees_with_body P D (record D { body = b }) (record { tparams = refl; funs = refl; params = refl; result = refl; seen = refl })
+
 -- signatures see the datatypes of a program alone
 signature_stands : (P Q : Program) → P.datatypes ≡ Q.datatypes → (D : definition.Def) → HasSignature P D → HasSignature Q D
 signature_stands P Q e D s =
     let stand = same_datatypes P Q e in
     record {
       funs = record {
-        types = fn_types_stand P Q stand D.tparams D.funs s.funs.types;
+        types = all_fn_types_agree stand D.tparams D.funs s.funs.types;
         assumed = λ i F p stands has. fits_again refl (s.funs.assumed i F p stands has);
       };
-      params = all_stand P Q stand D.tparams D.params s.params;
-      result = written_stands P Q stand D.tparams s.result;
+      params = all_written_agree stand D.tparams D.params s.params;
+      result = written_agrees stand s.result;
     }
 
 -- The signature of a definition is right.
@@ -199,10 +204,10 @@ module _ (P : Program) (d : RawDef) (some : HaveConstructors P) where
           record {
             D = record D { body = b };
             signature = record { tparams = heading.signature.tparams; funs = heading.signature.funs; params = heading.signature.params; result = heading.signature.result; stands = heading.signature.stands };
-            is = moves_term P (without_body D) b is.is;
+            is = raw_term_agrees (other_body P (without_body D) b) is.is;
             typed = record {
               signature = signature_stands P (with_definition P (record D { body = b })) refl (record D { body = b }) (record { funs = s.funs; params = s.params; result = s.result });
-              body = moves_type P (without_body D) b (in_body (length P.defs)) (own_context D) is.has;
+              body = term_agrees (other_body P (without_body D) b) is.has;
             };
             fit = fit_another P signed.D (record D { body = b }) (ap (λ (E : definition.Def). E.params) one) (ap (λ (E : definition.Def). E.result) one) d.props signed.fit;
             same = same;
@@ -224,8 +229,8 @@ module _ (P : Program) (d : RawDef) (some : HaveConstructors P) where
         heading = heading;
         body = D.body;
         is = record {
-          is = moves_term P D (term.Lit 0) step.is;
-          has = moves_type P D (term.Lit 0) (in_body (length P.defs)) (own_context D) step.typed.body;
+          is = raw_term_agrees (other_body P D (term.Lit 0)) step.is;
+          has = term_agrees (other_body P D (term.Lit 0)) step.typed.body;
         };
         same = step.same;
       }

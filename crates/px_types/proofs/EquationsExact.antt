@@ -36,7 +36,7 @@ use Rattle.px_types.proofs.PropsExact.{exact_assumed, AllAssumed, assumed_to, as
 use Rattle.px_types.proofs.HeadingsExact.{AreRightFnTys, fn_tys_of, fn_types_of, right_fn_types, all_written, these_fn_types, these_written, written_both, written_front, written_behind, IsLemmaHeading, variables_written, exact_lemma_heading}
 use Rattle.px_types.proofs.DefinitionsExact.{HaveConstructors}
 use Rattle.px_types.proofs.PartsExact.{exact_one_part}
-use Rattle.px_types.proofs.Given.{given_terms}
+use Rattle.px_types.proofs.AllExact.{exact_term}
 
 module _ (E : Env) (declaring : IsDeclaring E) where
   -- The written equation is this one, and both sides have one type.
@@ -48,7 +48,7 @@ module _ (E : Env) (declaring : IsDeclaring E) where
   pub exact_equation : (raw : RawEquation) → Exact (equation_found E raw) (IsRightEquation raw) (BreaksEquation E raw)
   unfolding equation_found
   exact_equation raw = exact_as
-      (exact_then (given_terms E declaring raw.left []) (λ found typed.
+      (exact_then (exact_term E declaring raw.left []) (λ found typed.
       exact_then (exact_one_part E declaring raw.right found.ty) (λ side is.
       exact_ok (record { left = found.term; right = side }))))
       (λ e both. subst (IsRightEquation raw) (sym both.after.after) (record { T = both.x.ty; left = both.is; right = both.after.is }))

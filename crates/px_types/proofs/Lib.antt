@@ -18,8 +18,6 @@ pub mod OwnTypes
 pub mod FitsExact
 pub mod PropsExact
 pub mod HeadingsExact
-pub mod SameTypes
-pub mod Given
 pub mod PartsExact
 pub mod DefinitionsExact
 pub mod DatatypesExact

@@ -27,7 +27,7 @@ use Rattle.px_types.specs.Declarations.{with_datatype, with_definition, with_obl
 use Rattle.px_types.specs.Outcomes.{onward}
 use Rattle.px_types.specs.NextOutcome.{checked, datatype_found, signature_found, body_found, claim_found, variables_found, equations_found, state_found, merge_found, types_found, terms_found, next_found}
 use Rattle.px_types.proofs.Exact.{Exact, exact_as, exact_at}
-use Rattle.px_types.proofs.DefinitionsExact.{HaveConstructors, at_end, DefinitionStep, exact_definition, ClaimStep, exact_claim}
+use Rattle.px_types.proofs.DefinitionsExact.{HaveConstructors, DefinitionStep, exact_definition, ClaimStep, exact_claim}
 use Rattle.px_types.proofs.DatatypesExact.{DatatypeStep, fields_written, exact_datatype}
 use Rattle.px_types.proofs.EquationsExact.{LemmaStep, exact_lemma}
 use Rattle.px_types.proofs.ReplicasExact.{ReplicaStep, exact_replica}

@@ -17,7 +17,7 @@ use Rattle.px_types.proofs.Sameness.{decides_same}
 use Rattle.px_types.proofs.Functions.{decides_met}
 use Rattle.px_types.proofs.TermShapes.{part_at}
 use Rattle.px_types.proofs.TermsExact.{type_is_met}
-use Rattle.px_types.proofs.Given.{given_terms}
+use Rattle.px_types.proofs.AllExact.{exact_term}
 
 module _ (E : Env) (declaring : IsDeclaring E) (raw : RawTerm) (wanted : Ty) where
   -- how a part breaks a rule, turn by turn
@@ -40,7 +40,7 @@ module _ (E : Env) (declaring : IsDeclaring E) (raw : RawTerm) (wanted : Ty) whe
   unfolding part_found term_found
   exact_one_part = exact_as
       (exact_then (exact_needs _ Oversize (part_of E raw).at (decides_met E.place wanted)) (λ _ met.
-      exact_then (given_terms E declaring raw []) (λ found typed.
+      exact_then (exact_term E declaring raw []) (λ found typed.
       exact_then (exact_needs _ Mismatch (part_of E raw).at (decides_same found.ty wanted)) (λ _ e.
       exact_ok found.term))))
       (λ t both. let rest = both.after in rw (rest.after.after, ← rest.after.is) rest.is)
