@@ -1,22 +1,18 @@
 -- Datatypes are found exactly as the rules say.
-use Rattle.std.proofs.Common.{◌≡◌, ◌⊎◌, inl, inr, ℕ, suc, ◌<◌, List, [], ◌∷◌, ◌++◌, length, Result, Ok, Err, refl, sym, ◌∙◌, ap, subst, arith}
+use Rattle.std.proofs.Common.{◌≡◌, inl, inr, ℕ, suc, ◌<◌, List, [], ◌∷◌, length, refl, sym, ◌∙◌, ap, subst}
 use Rattle.std.specs.List.{All, flat_map}
 use Rattle.std.proofs.lemmas.List.Elements.{All-nil, All-cons, All-head, All-tail, All-weaker}
 use Rattle.px_base.specs.declared.raw.RawTy.{RawTy}
 use Rattle.px_base.specs.declared.raw.RawCon.{RawCon}
 use Rattle.px_base.specs.declared.raw.RawData.{RawData}
-use Rattle.px_terms.specs.declared.types.Ty.{Ty}
 use Rattle.px_terms.specs.declared.program.ConDef.{ConDef}
 use Rattle.px_terms.specs.declared.program.DataDef.{DataDef}
 use Rattle.px_terms.specs.declared.program.Program.{Program}
 use Rattle.px_terms.specs.TypedPrograms.{IsTypedCon, IsTypedData}
-use Rattle.px_types.specs.Written.{AreTys}
 use Rattle.px_types.specs.Faults.{Broken, AreRight, BreaksTys}
-use Rattle.px_types.specs.Faults as faults
 use Rattle.px_types.specs.Declarations.{AreCons, IsData, with_datatype, without_constructors, HasWritten}
 use Rattle.px_types.specs.Declarations as declarations
-use Rattle.px_types.specs.Outcomes.{onward, each}
-use Rattle.px_types.specs.Outcome.{tys_found}
+use Rattle.px_types.specs.Outcomes.{each}
 use Rattle.px_types.specs.NextOutcome.{constructor_found, datatype_found}
 use Rattle.px_types.proofs.Exact.{Exact, Both, Either, first, later, exact_as, exact_ok, exact_then, Every, AllAre, OneBreaks, exact_each}
 use Rattle.px_types.proofs.Exact as exact

@@ -1,36 +1,30 @@
 -- Definitions and claims are found exactly as the rules say.
-use Rattle.std.proofs.Common.{◌≡◌, ℕ, zero, suc, ◌+◌, ◌<◌, List, [], ◌∷◌, ◌++◌, length, map, Option, Some, None, Result, Ok, Err, refl, sym, ◌∙◌, ap, subst, arith}
+use Rattle.std.proofs.Common.{◌≡◌, ℕ, ◌+◌, ◌<◌, List, [], ◌∷◌, length, Some, Ok, refl, sym, ◌∙◌, ap, subst, arith}
 use Rattle.std.specs.Prelude.{slice_get}
 use Rattle.std.specs.List.{All}
 use Rattle.std.specs.Option.{option_map}
 use Rattle.std.proofs.lemmas.List.Elements.{All-weaker}
-use Rattle.px_base.specs.PropSets.{HasProp}
-use Rattle.px_base.specs.declared.prop.Prop.{Prop}
 use Rattle.px_base.specs.declared.head.Head.TheVariants.{Def, FnVar}
 use Rattle.px_base.specs.declared.raw.RawProp.{RawProp}
 use Rattle.px_base.specs.declared.raw.RawDef.{RawDef}
 use Rattle.px_base.specs.declared.raw.RawClaim.{RawClaim}
 use Rattle.px_base.specs.declared.raw.RawKind.{out-RawKind}
-use Rattle.px_terms.specs.declared.types.Ty.{Ty}
-use Rattle.px_terms.specs.declared.types.FnType.{FnType}
 use Rattle.px_terms.specs.declared.term.Term.{Term}
 use Rattle.px_terms.specs.declared.term.Term.TheVariants as term
 use Rattle.px_terms.specs.declared.program.DataDef.{DataDef}
 use Rattle.px_terms.specs.declared.program.Def as definition
 use Rattle.px_terms.specs.declared.program.Program.{Program}
-use Rattle.px_terms.specs.Typing.{in_body}
-use Rattle.px_terms.specs.TypedPrograms.{Fits, AreWritten, IsWritten, IsWrittenFnType, AreWrittenFnTypes, HasSignature, IsTypedDef, own_context}
+use Rattle.px_terms.specs.TypedPrograms.{Fits, AreWritten, IsWritten, IsWrittenFnType, HasSignature, IsTypedDef}
 use Rattle.px_types.specs.Written.{IsTerm}
 use Rattle.px_types.specs.Faults.{Broken, IsTyped, BreaksTys, BreaksParts}
 use Rattle.px_types.specs.Declarations.{IsSignature, AllFit, with_definition, with_obligations, obligations_of, without_body, signature_written, body_env, BreaksProps, BreaksAssumed, BreaksDef}
 use Rattle.px_types.specs.Outcomes.{onward}
 use Rattle.px_types.specs.Laws.{IsDeclaring}
-use Rattle.px_types.specs.Outcome.{part_of, part_found}
-use Rattle.px_types.specs.NextOutcome.{shape_of, heading_found, assumed_found, props_found, signature_found, body_found, claim_found}
-use Rattle.px_types.proofs.Exact.{Exact, Both, Either, first, later, exact_as, exact_ok, exact_then, one_ok}
+use Rattle.px_types.specs.NextOutcome.{shape_of, signature_found, body_found, claim_found}
+use Rattle.px_types.proofs.Exact.{Exact, Either, first, later, exact_as, exact_ok, exact_then, one_ok}
 use Rattle.px_types.proofs.FitsExact.{fits_again}
-use Rattle.px_types.proofs.PropsExact.{exact_props, exact_assumed, AllAssumed, AssumedOf, assumed_to, assumed_from}
-use Rattle.px_types.proofs.HeadingsExact.{IsRightFnTy, AreRightFnTys, fn_tys_of, fn_types_of, right_fn_types, IsHeading, exact_heading, heading_of, heading_written}
+use Rattle.px_types.proofs.PropsExact.{exact_props, exact_assumed, AllAssumed, assumed_to, assumed_from}
+use Rattle.px_types.proofs.HeadingsExact.{fn_types_of, right_fn_types, IsHeading, exact_heading, heading_of, heading_written}
 use Rattle.px_types.proofs.PartsExact.{exact_one_part}
 use Rattle.px_types.proofs.Appending.{get_last, some_and}
 use Rattle.px_types.proofs.Agreement.{AgreeOnTypes, Agrees, written_agrees, all_written_agree, all_fn_types_agree}

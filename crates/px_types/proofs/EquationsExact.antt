@@ -1,6 +1,5 @@
 -- Equations and lemmas are found exactly as the rules say.
-use Rattle.std.proofs.Common.{◌≡◌, ◌⊎◌, inl, inr, ℕ, suc, ◌+◌, ◌<◌, ◌≤◌, Bool, true, false, List, [], ◌∷◌, ◌++◌, length, map, Result, Ok, Err, refl, sym, ◌∙◌, ap, subst, Decides, arith}
-use Rattle.std.specs.Prelude.{slice_get, nat_le}
+use Rattle.std.proofs.Common.{◌≡◌, ◌⊎◌, inl, inr, ℕ, suc, ◌+◌, ◌≤◌, List, [], ◌∷◌, ◌++◌, length, refl, sym, ◌∙◌, ap, subst, Decides, arith}
 use Rattle.std.specs.List.{All}
 use Rattle.std.proofs.lemmas.Bool.{leb-true, le-leb}
 use Rattle.std.proofs.lemmas.Bool.Decides.{Decides-and, Decides-like}
@@ -15,25 +14,23 @@ use Rattle.px_terms.specs.declared.types.FnType.{FnType}
 use Rattle.px_terms.specs.declared.term.Term.{Term}
 use Rattle.px_terms.specs.declared.term.Term.TheVariants as term
 use Rattle.px_terms.specs.declared.clause.Equation.{Equation}
-use Rattle.px_terms.specs.declared.program.DataDef.{DataDef}
 use Rattle.px_terms.specs.declared.program.Lemma as proposition
 use Rattle.px_terms.specs.declared.program.Program.{Program}
 use Rattle.px_terms.specs.Typing.{behind, live}
-use Rattle.px_terms.specs.TypedPrograms.{Fits, AreWritten, IsWrittenFnType, AreWrittenFnTypes, AreSidesTyped, IsTypedLemma, lemma_context}
+use Rattle.px_terms.specs.TypedPrograms.{Fits, AreWrittenFnTypes, AreSidesTyped, IsTypedLemma}
 use Rattle.px_types.specs.declared.ends.TypeKind.TheVariants.{Oversize}
 use Rattle.px_types.specs.declared.typed.Typed.{Typed}
-use Rattle.px_types.specs.Written.{AreTys, AreFnTys}
-use Rattle.px_types.specs.Faults.{Broken, breaks, Env, IsTyped, AreRight, Breaks, BreaksTys, BreaksParts}
-use Rattle.px_types.specs.Declarations.{IsEquation, AreEquations, IsLemma, with_lemma, HasWritten, IsEven, BreaksEquation, BreaksEquations, IsFew, IsLemmaHead, lemma_env, BreaksAssumed, BreaksLemma, fn_types_written}
-use Rattle.px_types.specs.Outcomes.{onward, needs, each}
+use Rattle.px_types.specs.Written.{AreFnTys}
+use Rattle.px_types.specs.Faults.{Broken, breaks, Env, IsTyped, Breaks, BreaksTys, BreaksParts}
+use Rattle.px_types.specs.Declarations.{IsEquation, AreEquations, IsLemma, with_lemma, HasWritten, IsEven, BreaksEquation, BreaksEquations, IsFew, IsLemmaHead, BreaksAssumed, BreaksLemma, fn_types_written}
+use Rattle.px_types.specs.Outcomes.{onward, each}
 use Rattle.px_types.specs.Laws.{IsDeclaring}
-use Rattle.px_types.specs.Outcome.{part_of, part_found, term_found}
-use Rattle.px_types.specs.NextOutcome.{Heading, lemma_heading_found, is_few, variables_found, equation_found, heading_env, equations_found, assumed_found}
+use Rattle.px_types.specs.NextOutcome.{Heading, is_few, variables_found, equation_found, heading_env, equations_found}
 use Rattle.px_types.proofs.Exact.{Exact, Both, Either, first, later, exact_as, exact_ok, exact_needs, exact_then, Every, AllAre, OneBreaks, exact_each, one_ok}
 use Rattle.px_types.proofs.Exact as exact
 use Rattle.px_types.proofs.TypesExact.{same_length}
 use Rattle.px_types.proofs.PropsExact.{exact_assumed, AllAssumed, assumed_to, assumed_from}
-use Rattle.px_types.proofs.HeadingsExact.{AreRightFnTys, fn_tys_of, fn_types_of, right_fn_types, all_written, these_fn_types, these_written, written_both, written_front, written_behind, IsLemmaHeading, variables_written, exact_lemma_heading}
+use Rattle.px_types.proofs.HeadingsExact.{fn_tys_of, fn_types_of, right_fn_types, all_written, these_fn_types, these_written, written_both, written_front, written_behind, IsLemmaHeading, variables_written, exact_lemma_heading}
 use Rattle.px_types.proofs.DefinitionsExact.{HaveConstructors}
 use Rattle.px_types.proofs.PartsExact.{exact_one_part}
 use Rattle.px_types.proofs.AllExact.{exact_term}

@@ -1,9 +1,9 @@
 -- The types that stand in a heading are found exactly as the rules say.
-use Rattle.std.proofs.Common.{◌≡◌, ◌⊎◌, inl, inr, ℕ, List, [], ◌∷◌, ◌++◌, length, map, Result, Ok, Err, refl, sym, ◌∙◌, ap, subst}
-use Rattle.std.specs.List.{All, flat_map}
+use Rattle.std.proofs.Common.{◌≡◌, ◌⊎◌, inl, inr, ℕ, List, [], ◌∷◌, ◌++◌, length, refl, sym, ◌∙◌, subst}
+use Rattle.std.specs.List.{All}
 use Rattle.std.proofs.lemmas.List.Elements.{All-nil, All-cons, All-head, All-tail}
 use Rattle.px_base.specs.PropSets.{set_of}
-use Rattle.px_base.specs.declared.raw.RawTy.{RawTy, out-RawTy}
+use Rattle.px_base.specs.declared.raw.RawTy.{RawTy}
 use Rattle.px_base.specs.declared.raw.RawFnType.{RawFnType}
 use Rattle.px_base.specs.declared.raw.RawDef.{RawDef}
 use Rattle.px_base.specs.declared.raw.RawLemma.{RawLemma}
@@ -18,8 +18,6 @@ use Rattle.px_types.specs.Written as written
 use Rattle.px_types.specs.Faults.{Broken, AreRight, BreaksTy, BreaksTys}
 use Rattle.px_types.specs.Faults as faults
 use Rattle.px_types.specs.Declarations.{HasWritten, fn_types_written, signature_written, IsSignature, without_body}
-use Rattle.px_types.specs.Outcomes.{onward, each}
-use Rattle.px_types.specs.Outcome.{ty_found, tys_found}
 use Rattle.px_types.specs.NextOutcome.{fn_type_found, fn_types_found, heading_found, Heading, lemma_heading_found}
 use Rattle.px_types.proofs.Exact.{Exact, Both, Either, first, later, exact_as, exact_ok, exact_then, Every, AllAre, OneBreaks, exact_each}
 use Rattle.px_types.proofs.Exact as exact

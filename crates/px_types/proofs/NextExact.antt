@@ -1,8 +1,7 @@
 -- One declaration more is found exactly as the rules say, where the declarations before it stand in their order.
-use Rattle.std.proofs.Common.{◌≡◌, ℕ, zero, suc, ◌+◌, ◌<◌, ◌≤◌, List, [], ◌∷◌, ◌++◌, length, map, Option, Some, None, Result, Ok, Err, refl, sym, ◌∙◌, ap, subst, arith, length-append}
+use Rattle.std.proofs.Common.{◌≡◌, ℕ, zero, suc, ◌+◌, ◌<◌, ◌≤◌, List, [], ◌∷◌, ◌++◌, length, Option, Some, None, Result, Ok, Err, refl, sym, ◌∙◌, ap, subst, arith, length-append}
 use Rattle.std.specs.Prelude.{slice_get}
 use Rattle.std.specs.Option.{IsSomeAnd}
-use Rattle.std.proofs.lemmas.Option.{slice_get_within}
 use Rattle.px_base.specs.Fitting.{AreInOrder, IsReplicaIn, IsDataIn, IsCalledIn, replica_range}
 use Rattle.px_base.specs.Fitting as fitting
 use Rattle.px_base.specs.declared.head.Head.{Head}
@@ -23,7 +22,7 @@ use Rattle.px_terms.specs.declared.program.Declared.{Declared}
 use Rattle.px_terms.specs.declared.program.Program.{Program}
 use Rattle.px_terms.specs.Typing.{behind, StandsBefore, MayCall}
 use Rattle.px_types.specs.Faults.{Broken, BreaksTys}
-use Rattle.px_types.specs.Declarations.{with_datatype, with_definition, with_obligations, with_lemma, with_replica, without_constructors, obligations_of, IsNext, BreaksNext, BreaksDef, BreaksLemma, BreaksReplica, BreaksProps}
+use Rattle.px_types.specs.Declarations.{with_datatype, with_definition, with_obligations, without_constructors, obligations_of, IsNext, BreaksNext, BreaksDef, BreaksLemma, BreaksReplica, BreaksProps}
 use Rattle.px_types.specs.Outcomes.{onward}
 use Rattle.px_types.specs.NextOutcome.{checked, datatype_found, signature_found, body_found, claim_found, variables_found, equations_found, state_found, merge_found, types_found, terms_found, next_found}
 use Rattle.px_types.proofs.Exact.{Exact, exact_as, exact_at}

@@ -1,5 +1,5 @@
 -- A part of a declaration that should have a certain type is found exactly as the rules say.
-use Rattle.std.proofs.Common.{◌≡◌, ◌≢◌, List, [], ◌∷◌, Result, Ok, Err, refl, sym, ◌∙◌, ap}
+use Rattle.std.proofs.Common.{◌≡◌, [], ◌∷◌, refl, sym, ◌∙◌, ap}
 use Rattle.px_base.specs.declared.raw.RawKind.{out-RawKind}
 use Rattle.px_base.specs.declared.raw.RawTerm.{RawTerm}
 use Rattle.px_terms.specs.declared.types.Ty.{Ty}
@@ -9,10 +9,9 @@ use Rattle.px_types.specs.declared.ends.TypeKind.TheVariants.{Mismatch, Oversize
 use Rattle.px_types.specs.declared.typed.Typed.{Typed}
 use Rattle.px_types.specs.Faults.{Broken, breaks, Env, IsTyped, AreTyped, Breaks, BreaksParts}
 use Rattle.px_types.specs.Faults as faults
-use Rattle.px_types.specs.Outcomes.{onward, needs}
 use Rattle.px_types.specs.Laws.{IsDeclaring}
-use Rattle.px_types.specs.Outcome.{is_met, same, part_of, part_found, term_found}
-use Rattle.px_types.proofs.Exact.{Exact, Both, Either, first, later, exact_as, exact_ok, exact_needs, exact_then}
+use Rattle.px_types.specs.Outcome.{part_of, part_found, term_found}
+use Rattle.px_types.proofs.Exact.{Exact, Either, first, later, exact_as, exact_ok, exact_needs, exact_then}
 use Rattle.px_types.proofs.Sameness.{decides_same}
 use Rattle.px_types.proofs.Functions.{decides_met}
 use Rattle.px_types.proofs.TermShapes.{part_at}

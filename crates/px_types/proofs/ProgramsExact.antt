@@ -1,5 +1,5 @@
 -- Programs are found exactly as the rules say.
-use Rattle.std.proofs.Common.{◌≡◌, ℕ, zero, suc, ◌+◌, ◌<◌, ◌≤◌, List, [], ◌∷◌, ◌++◌, length, Option, Some, None, Result, Ok, Err, refl, sym, ◌∙◌, ap, subst, arith, lit<}
+use Rattle.std.proofs.Common.{◌≡◌, ℕ, zero, suc, ◌<◌, List, [], ◌∷◌, ◌++◌, length, Some, Ok, refl, sym, ap, subst, lit<}
 use Rattle.std.specs.Prelude.{slice_get}
 use Rattle.px_base.specs.Fitting.{AreInOrder, IsFitting, bool_alone}
 use Rattle.px_base.specs.Fitting as fitting
@@ -10,10 +10,10 @@ use Rattle.px_terms.specs.declared.program.Program.{Program}
 use Rattle.px_terms.specs.Programs.{bool_data}
 use Rattle.px_types.specs.Faults.{Broken}
 use Rattle.px_types.specs.Declarations.{IsNext, AreNext, start, IsProgramOf, BreaksNext, IsFault}
-use Rattle.px_types.specs.Outcomes.{onward, along}
+use Rattle.px_types.specs.Outcomes.{along}
 use Rattle.px_types.specs.NextOutcome.{next_found, program_found}
 use Rattle.px_types.proofs.Exact.{Exact, Both, Either, first, later, exact_as, exact_ok, exact_then}
-use Rattle.px_types.proofs.NextExact.{Stands, exact_next, Kept, keeps}
+use Rattle.px_types.proofs.NextExact.{Stands, exact_next, keeps}
 
 -- The first fault of declarations in their order: that of one, where those before it are typed.
 pub data OrderBreaks (raw : RawProgram) : Program → List Decl → Broken → Type 0 where

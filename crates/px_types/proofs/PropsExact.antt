@@ -1,5 +1,5 @@
 -- The properties of a declaration, written and assumed, are found exactly as the rules say.
-use Rattle.std.proofs.Common.{◌≡◌, ◌⊎◌, inl, inr, ℕ, zero, suc, ◌+◌, Bool, true, false, cond, eqb, ◌||◌, List, [], ◌∷◌, length, map, Option, Some, None, Result, Ok, Err, refl, sym, ◌∙◌, ap, subst, arith}
+use Rattle.std.proofs.Common.{◌≡◌, ◌⊎◌, inl, inr, ℕ, zero, suc, ◌+◌, Bool, true, false, cond, eqb, ◌||◌, List, [], ◌∷◌, Some, refl, sym, ◌∙◌, ap, subst, arith}
 use Rattle.std.specs.Prelude.{slice_get, ◌==◌}
 use Rattle.std.specs.List.{All, list_any}
 use Rattle.std.proofs.lemmas.Bool.{false≢true}
@@ -20,9 +20,8 @@ use Rattle.px_types.specs.Written.{props_of, IsFnTy, AreFnTys}
 use Rattle.px_types.specs.Written as written
 use Rattle.px_types.specs.Faults.{Broken, breaks}
 use Rattle.px_types.specs.Declarations.{BreaksProps, BreaksAssumed}
-use Rattle.px_types.specs.Outcomes.{onward, needs}
-use Rattle.px_types.specs.NextOutcome.{fits, prop_found, props_found, assumed_found}
-use Rattle.px_types.proofs.Exact.{Exact, Both, Either, first, later, exact_as, exact_ok, exact_needs, exact_then}
+use Rattle.px_types.specs.NextOutcome.{prop_found, props_found, assumed_found}
+use Rattle.px_types.proofs.Exact.{Exact, Either, first, later, exact_as, exact_needs, exact_then}
 use Rattle.px_types.proofs.FitsExact.{decides_fits}
 
 -- the property of a number

@@ -1,17 +1,14 @@
 -- Replicas are found exactly as the rules say.
-use Rattle.std.proofs.Common.{◌≡◌, ℕ, suc, ◌<◌, ◌≤◌, Bool, true, false, List, [], ◌∷◌, length, Option, Some, None, Result, Ok, Err, refl, sym, ◌∙◌, ap, subst, Decides, arith}
-use Rattle.std.specs.Prelude.{slice_get, ◌==◌}
-use Rattle.std.specs.List.{All}
+use Rattle.std.proofs.Common.{◌≡◌, ℕ, suc, List, [], ◌∷◌, length, Option, Some, None, refl, sym, ◌∙◌, ap, subst, Decides}
 use Rattle.std.specs.Option.{IsSomeAnd}
 use Rattle.std.proofs.lemmas.Bool.{false≢true}
 use Rattle.std.proofs.lemmas.Bool.Decides.{Decides-and, Decides-eqb, Decides-like}
-use Rattle.std.proofs.lemmas.List.Elements.{All-nil, All-cons, All-head, All-tail, All-weaker}
+use Rattle.std.proofs.lemmas.List.Elements.{All-nil, All-cons, All-head, All-weaker}
 use Rattle.px_base.specs.PropSets.{HasProp, set_of}
 use Rattle.px_base.specs.Fitting.{IsGround, AreGround}
 use Rattle.px_base.specs.declared.prop.Prop.{Prop}
 use Rattle.px_base.specs.declared.prop.Prop.TheVariants.{Comm, Assoc, Idem, Sel, Refl, Irrefl, Sym, Antisym, Asym, Trans, Conn}
 use Rattle.px_base.specs.declared.head.Head.{Head}
-use Rattle.px_base.specs.declared.head.Head.TheVariants.{Def, Wle, Weq, FnVar}
 use Rattle.px_base.specs.declared.raw.RawTy.{RawTy}
 use Rattle.px_base.specs.declared.raw.RawFun.{RawFun}
 use Rattle.px_base.specs.declared.raw.RawKind.{RawKind, out-RawKind}
@@ -29,28 +26,24 @@ use Rattle.px_terms.specs.declared.program.Program.{Program}
 use Rattle.px_terms.specs.Typing.{behind, AreTypes, IsSmallMet, IsMet, IsFunction, MayCall, IsKnown, AreArguments}
 use Rattle.px_terms.specs.Typing as typing
 use Rattle.px_terms.specs.Clauses.{functions_alone}
-use Rattle.px_terms.specs.TypedPrograms.{IsWritten, AreWritten, IsBuiltLayer, AreBuilt, IsJoin, IsTypedReplica}
-use Rattle.px_terms.specs.TypedPrograms as programs
+use Rattle.px_terms.specs.TypedPrograms.{IsWritten, IsBuiltLayer, AreBuilt, IsTypedReplica}
 use Rattle.px_types.specs.declared.ends.TypeKind.TheVariants.{Arity, NotJoin}
 use Rattle.px_types.specs.Written.{IsTy, AreTys, IsFun, AreFuns, IsTermLayer, AreTerms}
 use Rattle.px_types.specs.Written as written
 use Rattle.px_types.specs.Faults.{Broken, breaks, Env, Counts, counts_of, IsTyped, AreTyped, AreRight, BreaksTy, BreaksTys, BreaksParts, BreaksArguments, AreRightArguments}
 use Rattle.px_types.specs.Faults as faults
 use Rattle.px_types.specs.Declarations.{IsReplica, with_replica, replica_env, HasMergeCounts, IsJoining, IsMerge, BreaksReplica}
-use Rattle.px_types.specs.Outcomes.{onward, needs, there}
 use Rattle.px_types.specs.Laws.{IsDeclaring}
-use Rattle.px_types.specs.Outcome.{Signature, signature_of, tys_found, passes, same, same_all, has_wanted, part_of, part_found, arguments_found}
+use Rattle.px_types.specs.Outcome.{Signature, signature_of}
 use Rattle.px_types.specs.NextOutcome.{state_found, has_merge_counts, is_joining, merge_found}
-use Rattle.px_types.proofs.Exact.{Exact, Both, Either, first, later, exact_as, exact_ok, exact_needs, exact_there, exact_then, AllTwo, OneOfTwo}
-use Rattle.px_types.proofs.Exact as exact
+use Rattle.px_types.proofs.Exact.{Exact, first, later, exact_as, exact_ok, exact_needs, exact_there, exact_then, AllTwo}
 use Rattle.px_types.proofs.TypesExact.{IsRight, exact_type, exact_types, same_length, are_types}
 use Rattle.px_types.proofs.Sameness.{decides_same, decides_same_all}
 use Rattle.px_types.proofs.Known.{decides_passes, decides_wanted}
 use Rattle.px_types.proofs.Functions.{TakesTypes, no_signature, function_of, function_is, function_counts, function_types}
-use Rattle.px_types.proofs.ArgumentsExact.{IsRightFun, exact_arguments, right_funs, right_arguments, all_right_funs, are_right_arguments, Found, found_arguments, broken_arguments, arguments_broken, written_of}
-use Rattle.px_types.proofs.PropsExact.{written_hold}
+use Rattle.px_types.proofs.ArgumentsExact.{IsRightFun, exact_arguments, right_funs, right_arguments, all_right_funs, are_right_arguments, found_arguments, broken_arguments, arguments_broken, written_of}
 use Rattle.px_types.proofs.DefinitionsExact.{HaveConstructors}
-use Rattle.px_types.proofs.PartsExact.{exact_one_part, one_typed, TypedPart, typed_one}
+use Rattle.px_types.proofs.PartsExact.{exact_one_part, one_typed, typed_one}
 
 one_some : {X : Type 0} {x y : X} → Some x ≡ Some y → x ≡ y
 one_some e = cc

@@ -1,4 +1,4 @@
-use Rattle.std.proofs.Common.{◌≡◌, sym, ◌∙◌}
+use Rattle.std.proofs.Common.{sym, ◌∙◌}
 use Rattle.px_terms.specs.declared.program.Program.{Program}
 use Rattle.px_types.proofs.Exact.{one_err}
 use Rattle.px_types.proofs.ProgramsExact.{exact_program}

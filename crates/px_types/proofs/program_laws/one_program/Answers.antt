@@ -1,4 +1,4 @@
-use Rattle.std.proofs.Common.{◌≡◌, sym, ◌∙◌}
+use Rattle.std.proofs.Common.{sym, ◌∙◌}
 use Rattle.px_types.proofs.Exact.{one_ok}
 use Rattle.px_types.proofs.ProgramsExact.{exact_program}
 use Rattle.px_types.proofs.program_laws.one_program.Goals as goal
