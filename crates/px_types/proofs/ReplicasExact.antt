@@ -317,7 +317,7 @@ module _ (P : Program) (r : RawReplica) (some : HaveConstructors P) where
       let found = found_arguments env tt are in
       let at : merge ≡ merge_at merge.types = λ i. record { head = m.is.head i; types = merge.types } in
       BreaksMade.of_joining {s = record { takes = takes; params = m.params; result = m.result }} (right_one right) (typed_one typed).is counts m.right (merge_stands m) found.are
-          (λ joins. wrong (subst (λ (f : Fun). IsJoining P f T) (sym at) (joining_of merge.types (record { takes = takes; params = m.params; result = m.result }) T (subst (λ (f : Fun). IsFunction P (functions_alone 0 []) f takes m.params m.result) at m.function) joins))) e
+      (λ joins. wrong (subst (λ (f : Fun). IsJoining P f T) (sym at) (joining_of merge.types (record { takes = takes; params = m.params; result = m.result }) T (subst (λ (f : Fun). IsFunction P (functions_alone 0 []) f takes m.params m.result) at m.function) joins))) e
 
   module _ (ground : IsGround (out-RawKind r.from.kind)) (callable : (types : List Ty) → MayCall P (behind (length P.declared)) r.merge.head types) where
     step_of : {Q : Program} → IsMade Q → ReplicaStep P r Q

@@ -1,4 +1,4 @@
-use Rattle.std.proofs.Common.{Ok, ◌∙◌, ap, sym}
+use Rattle.std.proofs.Common.{◌≡◌, Ok, ◌∙◌, ap, sym}
 use Rattle.px_types.specs.Outcome.{ty_found, tys_found}
 use Rattle.px_types.proofs.Stages.{stage, end_is, passed_on}
 use Rattle.px_types.proofs.Loops.{each_start, each_next, each_fails, each_end}

@@ -1,5 +1,5 @@
 use Rattle.std.proofs.Common.{◌≡◌, drop}
-use Rattle.px_types.specs.Outcome.{tys_found}
+use Rattle.px_types.specs.Outcome.{ty_found, tys_found}
 use Rattle.px_types.proofs.Loops.{after}
 use Rattle.px_types.proofs.types.+type_ty.Given as goal
 
