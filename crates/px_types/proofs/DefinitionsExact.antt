@@ -36,8 +36,10 @@ abbrev pub HaveConstructors : Program → Type 0
 HaveConstructors P = (d : ℕ) (D : DataDef) → slice_get P.datatypes d ≡ Some D → 0 < length D.cons
 
 -- the properties that fit a definition see its type alone
-fit_another : (P : Program) (D E : definition.Def) → D.params ≡ E.params → D.result ≡ E.result → (props : List RawProp) → AllFit (with_definition P D) (length P.defs) props → AllFit (with_definition P E) (length P.defs) props
-fit_another P D E params result props all = All-weaker (λ (raw : RawProp). Fits (with_definition P D) [] (Def (length P.defs)) raw.prop) (λ (raw : RawProp). Fits (with_definition P E) [] (Def (length P.defs)) raw.prop) (λ raw fit. fits_again shapes fit) props all
+fit_another : (P : Program) (D E : definition.Def) → D.params ≡ E.params → D.result ≡ E.result → (props : List RawProp) →
+    AllFit (with_definition P D) (length P.defs) props → AllFit (with_definition P E) (length P.defs) props
+fit_another P D E params result props all = All-weaker (λ (raw : RawProp). Fits (with_definition P D) [] (Def (length P.defs)) raw.prop)
+    (λ (raw : RawProp). Fits (with_definition P E) [] (Def (length P.defs)) raw.prop) (λ raw fit. fits_again shapes fit) props all
   where
     shape_at : (F : definition.Def) → shape_of (with_definition P F) [] (Def (length P.defs)) ≡ Some (F.params, F.result)
     shape_at F = ap (option_map (λ (d : definition.Def). (d.params, d.result))) (get_last P.defs F)
@@ -64,7 +66,8 @@ module _ (P : Program) (d : RawDef) where
       }
 
   assumed_of : {D : definition.Def} → IsSignature (length P.declared) d D → HasSignature P D → AllAssumed P D.funs 0 d.funs
-  assumed_of {D} s has = assumed_from P D.funs 0 s.funs (λ i j F p at stands wants. subst (λ (n : ℕ). Fits P D.funs (FnVar n) p) (number i j at) (has.funs.assumed i F p stands wants))
+  assumed_of {D} s has = assumed_from P D.funs 0 s.funs
+      (λ i j F p at stands wants. subst (λ (n : ℕ). Fits P D.funs (FnVar n) p) (number i j at) (has.funs.assumed i F p stands wants))
     where
       number : (i j : ℕ) → j ≡ 0 + i → i ≡ j
       number i j e = omega arith
@@ -84,7 +87,10 @@ module _ (P : Program) (d : RawDef) where
 
 -- where the datatypes are the same, the types are
 same_datatypes : (P Q : Program) → P.datatypes ≡ Q.datatypes → AgreeOnTypes P Q
-same_datatypes P Q e = record { datatypes = λ d D stands. some_and (slice_get Q.datatypes d) (λ (E : DataDef). E.tparams ≡ D.tparams) D (sym (ap (λ (xs : List DataDef). slice_get xs d) e) ∙ stands) refl }
+same_datatypes P Q e = record {
+  datatypes = λ d D stands. some_and (slice_get Q.datatypes d) (λ (E : DataDef). E.tparams ≡ D.tparams) D
+      (sym (ap (λ (xs : List DataDef). slice_get xs d) e) ∙ stands) refl;
+}
 
 -- programs agree that differ by the body of the last definition
 other_body : (P : Program) (D : definition.Def) (b : Term) → Agrees (with_definition P D) (with_definition P (record D { body = b }))
@@ -114,7 +120,8 @@ pub record Signed (P : Program) (d : RawDef) : Type 0 where
 data BreaksSignature (P : Program) (d : RawDef) (b : Broken) : Type 0 where
   of_types : BreaksTys P d.tparams (signature_written d) b → BreaksSignature P d b
   of_assumed : {D : definition.Def} → IsHeading P d D → BreaksAssumed P D.funs 0 d.funs b → BreaksSignature P d b
-  of_properties : {D : definition.Def} → IsHeading P d D → AllAssumed P D.funs 0 d.funs → BreaksProps (with_definition P D) [] (Def (length P.defs)) d.props b → BreaksSignature P d b
+  of_properties : {D : definition.Def} → IsHeading P d D → AllAssumed P D.funs 0 d.funs → BreaksProps (with_definition P D) [] (Def (length P.defs)) d.props b →
+      BreaksSignature P d b
 
 module _ (P : Program) (d : RawDef) where
   exact_signature : Exact (signature_found P d) (λ _. Signed P d) (BreaksSignature P d)
@@ -127,7 +134,11 @@ module _ (P : Program) (d : RawDef) where
       (λ x signed. record { x = signed.D; is = signed.heading; after = record { x = tt; is = signed.assumed; after = signed.fit } })
       (λ b br. elim br [
         | first wrong ↦ BreaksSignature.of_types wrong
-        | later D heading h ↦ elim h [ first wrong ↦ BreaksSignature.of_assumed heading wrong | later _ all wrong ↦ BreaksSignature.of_properties heading all wrong ]
+        | later D heading h ↦ elim h [
+          | first wrong ↦ BreaksSignature.of_assumed heading wrong
+          | later _ all wrong ↦ BreaksSignature.of_properties heading all
+              wrong
+        ]
       ])
       (λ b br. elim br [
         | BreaksSignature.of_types wrong ↦ first wrong
@@ -170,8 +181,19 @@ module _ (P : Program) (d : RawDef) (some : HaveConstructors P) where
       exact_then (exact_heading P d) (λ D heading.
       exact_then (exact_one_part (body_env P D) (declaring D) d.body D.result) (λ body is.
       exact_ok (with_obligations (with_definition P (record D { body = body })) (obligations_of (length P.defs) d.props))))))
-      (λ Q both. let rest = both.after in record { D = rest.x; signed = both.is; heading = rest.is; body = rest.after.x; is = rest.after.is; same = rest.after.after })
-      (λ Q defined. record { x = tt; is = defined.signed; after = record { x = defined.D; is = defined.heading; after = record { x = defined.body; is = defined.is; after = defined.same } } })
+      (λ Q both. let rest = both.after in record {
+        D = rest.x;
+        signed = both.is;
+        heading = rest.is;
+        body = rest.after.x;
+        is = rest.after.is;
+        same = rest.after.after;
+      })
+      (λ Q defined. record {
+        x = tt;
+        is = defined.signed;
+        after = record { x = defined.D; is = defined.heading; after = record { x = defined.body; is = defined.is; after = defined.same } };
+      })
       (λ b br. elim br [
         | first wrong ↦ BreaksDefined.at_signature wrong
         | later _ signed h ↦ elim h [
@@ -181,7 +203,11 @@ module _ (P : Program) (d : RawDef) (some : HaveConstructors P) where
       ])
       (λ b br. defined_breaks br)
     where
-      defined_breaks : {b : Broken} → BreaksDefined b → Either {S = Unit {0}} (λ _. Signed P d) (BreaksSignature P d) (λ _. Either (IsHeading P d) (BreaksTys P d.tparams (signature_written d)) (λ (D : definition.Def). Either (λ (t : Term). IsTyped (body_env P D) [] (out-RawKind d.body.kind) t D.result) (BreaksParts (body_env P D) [] (d.body ∷ []) (D.result ∷ [])) (λ _ _. ⊥))) b
+      defined_breaks : {b : Broken} → BreaksDefined b →
+          Either {S = Unit {0}} (λ _. Signed P d) (BreaksSignature P d)
+          (λ _. Either (IsHeading P d) (BreaksTys P d.tparams (signature_written d))
+          (λ (D : definition.Def). Either (λ (t : Term). IsTyped (body_env P D) [] (out-RawKind d.body.kind) t D.result)
+          (BreaksParts (body_env P D) [] (d.body ∷ []) (D.result ∷ [])) (λ _ _. ⊥))) b
       defined_breaks (BreaksDefined.at_signature wrong) = first wrong
       defined_breaks (BreaksDefined.at_heading wrong) = first (BreaksSignature.of_types wrong)
       defined_breaks (BreaksDefined.at_body {D = D} signed heading wrong) = later tt signed (later D heading (first wrong))
@@ -190,20 +216,29 @@ module _ (P : Program) (d : RawDef) (some : HaveConstructors P) where
   step_of : {Q : Program} (n : ℕ) → n ≡ length P.defs → IsDefined Q → DefinitionStep P d n Q
   step_of {Q} n e defined = subst (λ (m : ℕ). DefinitionStep P d m Q) (sym e) (go defined.D defined.signed defined.heading defined.body defined.is defined.same)
     where
-      go : (D : definition.Def) → Signed P d → IsHeading P d D → (b : Term) → IsTyped (body_env P D) [] (out-RawKind d.body.kind) b D.result → Q ≡ with_obligations (with_definition P (record D { body = b })) (obligations_of (length P.defs) d.props) → DefinitionStep P d (length P.defs) Q
+      go : (D : definition.Def) → Signed P d → IsHeading P d D → (b : Term) → IsTyped (body_env P D) [] (out-RawKind d.body.kind) b D.result →
+          Q ≡ with_obligations (with_definition P (record D { body = b })) (obligations_of (length P.defs) d.props) → DefinitionStep P d (length P.defs) Q
       go D signed heading b is same =
           let one : signed.D ≡ D = one_heading P d signed.heading heading in
           let assumed : AllAssumed P D.funs 0 d.funs = subst (λ (E : definition.Def). AllAssumed P E.funs 0 d.funs) one signed.assumed in
           let s = has_signature P d heading assumed in
           record {
             D = record D { body = b };
-            signature = record { tparams = heading.signature.tparams; funs = heading.signature.funs; params = heading.signature.params; result = heading.signature.result; stands = heading.signature.stands };
+            signature = record {
+              tparams = heading.signature.tparams;
+              funs = heading.signature.funs;
+              params = heading.signature.params;
+              result = heading.signature.result;
+              stands = heading.signature.stands;
+            };
             is = raw_term_agrees (other_body P (without_body D) b) is.is;
             typed = record {
-              signature = signature_stands P (with_definition P (record D { body = b })) refl (record D { body = b }) (record { funs = s.funs; params = s.params; result = s.result });
+              signature = signature_stands P (with_definition P (record D { body = b })) refl (record D { body = b })
+                  (record { funs = s.funs; params = s.params; result = s.result });
               body = term_agrees (other_body P (without_body D) b) is.has;
             };
-            fit = fit_another P signed.D (record D { body = b }) (ap (λ (E : definition.Def). E.params) one) (ap (λ (E : definition.Def). E.result) one) d.props signed.fit;
+            fit = fit_another P signed.D (record D { body = b }) (ap (λ (E : definition.Def). E.params) one)
+                (ap (λ (E : definition.Def). E.result) one) d.props signed.fit;
             same = same;
           }
 
@@ -232,32 +267,40 @@ module _ (P : Program) (d : RawDef) (some : HaveConstructors P) where
   def_breaks : {b : Broken} → BreaksDefined b → BreaksDef P d b
   def_breaks (BreaksDefined.at_heading wrong) = BreaksDef.types wrong
   def_breaks (BreaksDefined.at_signature (BreaksSignature.of_types wrong)) = BreaksDef.types wrong
-  def_breaks (BreaksDefined.at_signature (BreaksSignature.of_assumed {D = D} heading wrong)) = BreaksDef.assumed {D = D} heading.signature (heading_written P d heading) wrong
+  def_breaks (BreaksDefined.at_signature (BreaksSignature.of_assumed {D = D} heading wrong)) =
+      BreaksDef.assumed {D = D} heading.signature (heading_written P d heading) wrong
   def_breaks {b} (BreaksDefined.at_signature (BreaksSignature.of_properties {D = D} heading all wrong)) =
-      BreaksDef.properties {D = D} heading.signature (has_signature P d heading all) (subst (λ (E : definition.Def). BreaksProps (with_definition P E) [] (Def (length P.defs)) d.props b) (plain_is D heading.body) wrong)
+      BreaksDef.properties {D = D} heading.signature (has_signature P d heading all)
+      (subst (λ (E : definition.Def). BreaksProps (with_definition P E) [] (Def (length P.defs)) d.props b) (plain_is D heading.body) wrong)
   def_breaks (BreaksDefined.at_body {D = D} signed heading wrong) =
       let one : signed.D ≡ D = one_heading P d signed.heading heading in
       let all : AllAssumed P D.funs 0 d.funs = subst (λ (E : definition.Def). AllAssumed P E.funs 0 d.funs) one signed.assumed in
-      let fit = fit_another P signed.D (without_body D) (ap (λ (E : definition.Def). E.params) one) (ap (λ (E : definition.Def). E.result) one) d.props signed.fit in
+      let fit = fit_another P signed.D (without_body D) (ap (λ (E : definition.Def). E.params) one)
+      (ap (λ (E : definition.Def). E.result) one) d.props signed.fit in
       BreaksDef.body {D = D} heading.signature (has_signature P d heading all) fit wrong
 
   breaks_def : {b : Broken} → BreaksDef P d b → BreaksDefined b
   breaks_def (BreaksDef.types wrong) = BreaksDefined.at_heading wrong
-  breaks_def (BreaksDef.assumed {D = D} signature written wrong) = BreaksDefined.at_signature (BreaksSignature.of_assumed {D = without_body D} (heading_of P d signature written) wrong)
-  breaks_def (BreaksDef.properties {D = D} signature has wrong) = BreaksDefined.at_signature (BreaksSignature.of_properties {D = without_body D} (heading_from P d signature has) (assumed_of P d signature has) wrong)
+  breaks_def (BreaksDef.assumed {D = D} signature written wrong) = BreaksDefined.at_signature
+      (BreaksSignature.of_assumed {D = without_body D} (heading_of P d signature written) wrong)
+  breaks_def (BreaksDef.properties {D = D} signature has wrong) = BreaksDefined.at_signature
+      (BreaksSignature.of_properties {D = without_body D} (heading_from P d signature has) (assumed_of P d signature has) wrong)
   breaks_def (BreaksDef.body {D = D} signature has fit wrong) =
       let heading : IsHeading P d (without_body D) = heading_from P d signature has in
-      BreaksDefined.at_body {D = without_body D} (record { D = without_body D; heading = heading; assumed = assumed_of P d signature has; fit = fit }) heading wrong
+      BreaksDefined.at_body {D = without_body D} (record { D = without_body D; heading = heading; assumed = assumed_of P d signature has; fit = fit }) heading
+      wrong
 
   pub exact_definition : (n : ℕ) → n ≡ length P.defs → Exact (onward (signature_found P d) (λ _. body_found P d)) (DefinitionStep P d n) (BreaksDef P d)
-  exact_definition n e = exact_as exact_defined (λ Q defined. step_of n e defined) (λ Q step. defined_of (subst (λ (m : ℕ). DefinitionStep P d m Q) e step)) (λ b br. def_breaks br) (λ b br. breaks_def br)
+  exact_definition n e = exact_as exact_defined (λ Q defined. step_of n e defined) (λ Q step. defined_of (subst (λ (m : ℕ). DefinitionStep P d m Q) e step))
+      (λ b br. def_breaks br) (λ b br. breaks_def br)
 
 -- a claim adds obligations where its properties fit
 pub record ClaimStep (P : Program) (c : RawClaim) (Q : Program) : Type 0 where
   pub fit : AllFit P c.def c.props
   pub same : Q ≡ with_obligations P (obligations_of c.def c.props)
 
-pub exact_claim : (P : Program) (c : RawClaim) → Exact (onward (claim_found P c) (λ _. Ok (with_obligations P (obligations_of c.def c.props)))) (ClaimStep P c) (BreaksProps P [] (Def c.def) c.props)
+pub exact_claim : (P : Program) (c : RawClaim) →
+    Exact (onward (claim_found P c) (λ _. Ok (with_obligations P (obligations_of c.def c.props)))) (ClaimStep P c) (BreaksProps P [] (Def c.def) c.props)
 unfolding claim_found
 exact_claim P c = exact_as
     (exact_then (exact_props P [] (Def c.def) c.props) (λ _ fit. exact_ok (with_obligations P (obligations_of c.def c.props))))

@@ -56,7 +56,10 @@ module _ (E : Env) (declaring : IsDeclaring E) where
       ])
       (λ b br. back br)
     where
-      back : {b : Broken} → BreaksEquation E raw b → Either (λ (found : Typed). IsTyped E [] (out-RawKind raw.left.kind) found.term found.ty) (Breaks E [] raw.left.at (out-RawKind raw.left.kind)) (λ (found : Typed). Either (λ (side : Term). IsTyped E [] (out-RawKind raw.right.kind) side found.ty) (BreaksParts E [] (raw.right ∷ []) (found.ty ∷ [])) (λ _ _. ⊥)) b
+      back : {b : Broken} → BreaksEquation E raw b →
+          Either (λ (found : Typed). IsTyped E [] (out-RawKind raw.left.kind) found.term found.ty) (Breaks E [] raw.left.at (out-RawKind raw.left.kind))
+          (λ (found : Typed). Either (λ (side : Term). IsTyped E [] (out-RawKind raw.right.kind) side found.ty)
+          (BreaksParts E [] (raw.right ∷ []) (found.ty ∷ [])) (λ _ _. ⊥)) b
       back (BreaksEquation.left wrong) = first wrong
       back (BreaksEquation.right {t = t} {T = T} typed wrong) = later (record { term = t; ty = T }) typed (first wrong)
 
@@ -64,7 +67,8 @@ module _ (E : Env) (declaring : IsDeclaring E) where
   every_equation [] = tt
   every_equation (raw ∷ raws) = (exact_equation raw, every_equation raws)
 
-  pub exact_premises : (raws : List RawEquation) → Exact (each (equation_found E) raws) (AllAre IsRightEquation raws) (OneBreaks IsRightEquation (BreaksEquation E) raws)
+  pub exact_premises : (raws : List RawEquation) →
+      Exact (each (equation_found E) raws) (AllAre IsRightEquation raws) (OneBreaks IsRightEquation (BreaksEquation E) raws)
   exact_premises raws = exact_each (equation_found E) IsRightEquation (BreaksEquation E) raws (every_equation raws)
 
   even_of : {raw : RawEquation} {e : Equation} → IsRightEquation raw e → IsEven E raw
@@ -74,11 +78,13 @@ module _ (E : Env) (declaring : IsDeclaring E) where
   right_of even = record { T = even.T; left = even.left_typed; right = even.right_typed }
 
   -- the first fault of equations: of the premises, or of the conclusion behind them
-  pub in_premises : {raws : List RawEquation} {b : Broken} → OneBreaks IsRightEquation (BreaksEquation E) raws b → (rest : List RawEquation) → BreaksEquations E (raws ++ rest) b
+  pub in_premises : {raws : List RawEquation} {b : Broken} → OneBreaks IsRightEquation (BreaksEquation E) raws b → (rest : List RawEquation) →
+      BreaksEquations E (raws ++ rest) b
   in_premises (exact.here br) rest = BreaksEquations.here br
   in_premises (exact.behind is br) rest = BreaksEquations.later (even_of is) (in_premises br rest)
 
-  pub in_conclusion : {raws : List RawEquation} {es : List Equation} {c : RawEquation} {b : Broken} → AllAre IsRightEquation raws es → BreaksEquation E c b → BreaksEquations E (raws ++ c ∷ []) b
+  pub in_conclusion : {raws : List RawEquation} {es : List Equation} {c : RawEquation} {b : Broken} → AllAre IsRightEquation raws es → BreaksEquation E c b →
+      BreaksEquations E (raws ++ c ∷ []) b
   in_conclusion exact.none br = BreaksEquations.here br
   in_conclusion (exact.more is all) br = BreaksEquations.later (even_of is) (in_conclusion all br)
 
@@ -88,7 +94,8 @@ module _ (E : Env) (declaring : IsDeclaring E) where
     pub all : AllAre IsRightEquation raws es
     pub wrong : BreaksEquation E c b
 
-  pub equations_split : (raws : List RawEquation) (c : RawEquation) {b : Broken} → BreaksEquations E (raws ++ c ∷ []) b → OneBreaks IsRightEquation (BreaksEquation E) raws b ⊎ BreaksLast raws c b
+  pub equations_split : (raws : List RawEquation) (c : RawEquation) {b : Broken} → BreaksEquations E (raws ++ c ∷ []) b →
+      OneBreaks IsRightEquation (BreaksEquation E) raws b ⊎ BreaksLast raws c b
   equations_split [] c (BreaksEquations.here br) = inr (record { es = []; all = exact.none; wrong = br })
   equations_split [] c (BreaksEquations.later even br) = elim br [ ]
   equations_split (raw ∷ raws) c (BreaksEquations.here br) = inl (exact.here br)
@@ -111,9 +118,12 @@ module _ (E : Env) (declaring : IsDeclaring E) where
   right_equation : {raw : RawEquation} {e : Equation} → IsEquation E.program raw e → AreSidesTyped E.program E.place E.context e → IsRightEquation raw e
   right_equation is typed = record { T = typed.T; left = record { is = is.left; has = typed.left }; right = record { is = is.right; has = typed.right } }
 
-  pub right_equations : {raws : List RawEquation} {es : List Equation} → AreEquations E.program raws es → All (AreSidesTyped E.program E.place E.context) es → AllAre IsRightEquation raws es
+  pub right_equations : {raws : List RawEquation} {es : List Equation} → AreEquations E.program raws es → All (AreSidesTyped E.program E.place E.context) es →
+      AllAre IsRightEquation raws es
   right_equations AreEquations.none all = exact.none
-  right_equations (AreEquations.more {e = e} {es = es} is are) all = exact.more (right_equation is (All-head (AreSidesTyped E.program E.place E.context) e es all)) (right_equations are (All-tail (AreSidesTyped E.program E.place E.context) e es all))
+  right_equations (AreEquations.more {e = e} {es = es} is are) all =
+      exact.more (right_equation is (All-head (AreSidesTyped E.program E.place E.context) e es all))
+      (right_equations are (All-tail (AreSidesTyped E.program E.place E.context) e es all))
 
 equations_length : {P : Program} {raws : List RawEquation} {es : List Equation} → AreEquations P raws es → length raws ≡ length es
 equations_length AreEquations.none = refl
@@ -121,7 +131,9 @@ equations_length (AreEquations.more is are) = ap (λ n. suc n) (equations_length
 
 decides_few : (l : RawLemma) → Decides (is_few l) (IsFew l)
 unfolding is_few
-decides_few l = Decides-like _ (λ h. record { vars = h.0; premises = h.1 }) (λ few. (few.vars, few.premises)) (Decides-and _ _ (leb-true (length l.vars) CLAUSE_VARIABLES, le-leb (length l.vars) CLAUSE_VARIABLES) (leb-true (length l.premises) PREMISES, le-leb (length l.premises) PREMISES))
+decides_few l = Decides-like _ (λ h. record { vars = h.0; premises = h.1 }) (λ few. (few.vars, few.premises))
+    (Decides-and _ _ (leb-true (length l.vars) CLAUSE_VARIABLES, le-leb (length l.vars) CLAUSE_VARIABLES)
+    (leb-true (length l.premises) PREMISES, le-leb (length l.premises) PREMISES))
 
 -- What stands before a lemma's equations is right.
 record Headed (P : Program) (l : RawLemma) : Type 0 where
@@ -184,8 +196,10 @@ module _ (P : Program) (l : RawLemma) (some : HaveConstructors P) where
   data BreaksFound (b : Broken) : Type 0 where
     at_variables : BreaksHeaded P l b → BreaksFound b
     at_heading : Headed P l → BreaksTys P l.tparams (variables_written l) b → BreaksFound b
-    at_premises : {H : Heading} → Headed P l → IsLemmaHeading P l H → OneBreaks (IsRightEquation (env H) (declaring_env H)) (BreaksEquation (env H)) l.premises b → BreaksFound b
-    at_conclusion : {H : Heading} {es : List Equation} → Headed P l → IsLemmaHeading P l H → AllAre (IsRightEquation (env H) (declaring_env H)) l.premises es → BreaksEquation (env H) l.conclusion b → BreaksFound b
+    at_premises : {H : Heading} → Headed P l → IsLemmaHeading P l H →
+        OneBreaks (IsRightEquation (env H) (declaring_env H)) (BreaksEquation (env H)) l.premises b → BreaksFound b
+    at_conclusion : {H : Heading} {es : List Equation} → Headed P l → IsLemmaHeading P l H → AllAre (IsRightEquation (env H) (declaring_env H)) l.premises es →
+        BreaksEquation (env H) l.conclusion b → BreaksFound b
 
   exact_found : Exact (onward (variables_found P l) (λ _. equations_found P l)) IsFound BreaksFound
   unfolding equations_found
@@ -205,14 +219,26 @@ module _ (P : Program) (l : RawLemma) (some : HaveConstructors P) where
         is = last.after.is;
         same = last.after.after;
       })
-      (λ Q found. record { x = tt; is = found.headed; after = record { x = found.H; is = found.heading; after = record { x = found.premises; is = found.are; after = record { x = found.conclusion; is = found.is; after = found.same } } } })
+      (λ Q found. record {
+        x = tt;
+        is = found.headed;
+        after = record {
+          x = found.H;
+          is = found.heading;
+          after = record { x = found.premises; is = found.are; after = record { x = found.conclusion; is = found.is; after = found.same } };
+        };
+      })
       (λ b br. elim br [
         | first wrong ↦ BreaksFound.at_variables wrong
         | later _ headed h ↦ elim h [
           | first wrong ↦ BreaksFound.at_heading headed wrong
           | later H heading h2 ↦ elim h2 [
             | first wrong ↦ BreaksFound.at_premises {H = H} headed heading wrong
-            | later premises are h3 ↦ elim h3 [ first wrong ↦ BreaksFound.at_conclusion {H = H} headed heading are wrong | later conclusion is nothing ↦ absurd nothing ]
+            | later premises are h3 ↦ elim h3 [
+              | first wrong ↦ BreaksFound.at_conclusion {H = H} headed heading are wrong
+              | later conclusion is nothing ↦ absurd
+                  nothing
+            ]
           ]
         ]
       ])
@@ -229,10 +255,15 @@ module _ (P : Program) (l : RawLemma) (some : HaveConstructors P) where
 
   -- what a heading gives
   fn_types_written_of : {H : Heading} → IsLemmaHeading P l H → AllAssumed P H.funs 0 l.funs → AreWrittenFnTypes P l.tparams H.funs
-  fn_types_written_of {H} h all = record { types = fn_types_of P l.tparams h.funs; assumed = λ i F p stands has. assumed_to P H.funs 0 (fn_tys_of P l.tparams h.funs) all i i F p (omega arith) stands has }
+  fn_types_written_of {H} h all = record {
+    types = fn_types_of P l.tparams h.funs;
+    assumed =
+        λ i F p stands has. assumed_to P H.funs 0 (fn_tys_of P l.tparams h.funs) all i i F p (omega arith) stands has;
+  }
 
   assumed_of : {funs : List FnType} → AreFnTys l.funs funs → AreWrittenFnTypes P l.tparams funs → AllAssumed P funs 0 l.funs
-  assumed_of {funs} are written = assumed_from P funs 0 are (λ i j F p at stands wants. subst (λ (n : ℕ). Fits P funs (FnVar n) p) (number i j at) (written.assumed i F p stands wants))
+  assumed_of {funs} are written = assumed_from P funs 0 are
+      (λ i j F p at stands wants. subst (λ (n : ℕ). Fits P funs (FnVar n) p) (number i j at) (written.assumed i F p stands wants))
     where
       number : (i j : ℕ) → j ≡ 0 + i → i ≡ j
       number i j e = omega arith
@@ -241,7 +272,8 @@ module _ (P : Program) (l : RawLemma) (some : HaveConstructors P) where
   heading_written {H} h = written_both P l.tparams (fn_types_written l.funs) (all_written P l.tparams h.funs) (record { types = H.vars; right = h.vars })
 
   -- a heading, by what the rules say
-  heading_by : {L : proposition.Lemma} → IsLemmaHead l L → HasWritten P l.tparams (variables_written l) → IsLemmaHeading P l (record { funs = L.funs; vars = L.vars })
+  heading_by : {L : proposition.Lemma} → IsLemmaHead l L → HasWritten P l.tparams (variables_written l) →
+      IsLemmaHeading P l (record { funs = L.funs; vars = L.vars })
   heading_by head w = record {
     funs = these_fn_types P l.tparams head.funs (written_front P l.tparams (fn_types_written l.funs) l.vars w);
     vars = record { are = head.vars; written = these_written P l.tparams head.vars (written_behind P l.tparams (fn_types_written l.funs) l.vars w) };
@@ -258,7 +290,13 @@ module _ (P : Program) (l : RawLemma) (some : HaveConstructors P) where
       let are = are_equations (env H) (declaring_env H) found.are in
       record {
         L = record { tparams = l.tparams; funs = H.funs; vars = H.vars; premises = found.premises; conclusion = found.conclusion };
-        is = record { tparams = refl; funs = fn_tys_of P l.tparams h.funs; vars = h.vars.are; premises = are; conclusion = record { left = found.is.left.is; right = found.is.right.is } };
+        is = record {
+          tparams = refl;
+          funs = fn_tys_of P l.tparams h.funs;
+          vars = h.vars.are;
+          premises = are;
+          conclusion = record { left = found.is.left.is; right = found.is.right.is };
+        };
         typed = record {
           few_vars = subst (λ (n : ℕ). n ≤ CLAUSE_VARIABLES) (same_length h.vars.are) found.headed.few.vars;
           few_premises = subst (λ (n : ℕ). n ≤ PREMISES) (equations_length are) found.headed.few.premises;
@@ -283,7 +321,8 @@ module _ (P : Program) (l : RawLemma) (some : HaveConstructors P) where
   fitted : {Q : Program} → LemmaStep P l Q → Fitted Q
   fitted {Q} step =
       let L = step.L in
-      let e : L ≡ record { tparams = l.tparams; funs = L.funs; vars = L.vars; premises = L.premises; conclusion = L.conclusion } = λ i. record { tparams = step.is.tparams i; funs = L.funs; vars = L.vars; premises = L.premises; conclusion = L.conclusion } in
+      let e : L ≡ record { tparams = l.tparams; funs = L.funs; vars = L.vars; premises = L.premises; conclusion = L.conclusion } =
+      λ i. record { tparams = step.is.tparams i; funs = L.funs; vars = L.vars; premises = L.premises; conclusion = L.conclusion } in
       record {
         funs = L.funs;
         vars = L.vars;
@@ -298,10 +337,16 @@ module _ (P : Program) (l : RawLemma) (some : HaveConstructors P) where
   found_of step =
       let f = fitted step in
       let H : Heading = record { funs = f.funs; vars = f.vars } in
-      let h : IsLemmaHeading P l H = record { funs = right_fn_types P l.tparams f.is.funs f.typed.funs.types; vars = record { are = f.is.vars; written = f.typed.vars } } in
+      let h : IsLemmaHeading P l H = record {
+        funs = right_fn_types P l.tparams f.is.funs f.typed.funs.types;
+        vars = record { are = f.is.vars; written = f.typed.vars };
+      } in
       record {
         headed = record {
-          few = record { vars = subst (λ (n : ℕ). n ≤ CLAUSE_VARIABLES) (sym (same_length f.is.vars)) f.typed.few_vars; premises = subst (λ (n : ℕ). n ≤ PREMISES) (sym (equations_length f.is.premises)) f.typed.few_premises };
+          few = record {
+            vars = subst (λ (n : ℕ). n ≤ CLAUSE_VARIABLES) (sym (same_length f.is.vars)) f.typed.few_vars;
+            premises = subst (λ (n : ℕ). n ≤ PREMISES) (sym (equations_length f.is.premises)) f.typed.few_premises;
+          };
           H = H;
           heading = h;
           assumed = assumed_of f.is.funs f.typed.funs;
@@ -311,7 +356,11 @@ module _ (P : Program) (l : RawLemma) (some : HaveConstructors P) where
         premises = f.premises;
         are = right_equations (env H) (declaring_env H) f.is.premises f.typed.premises;
         conclusion = f.conclusion;
-        is = record { T = f.typed.conclusion.T; left = record { is = f.is.conclusion.left; has = f.typed.conclusion.left }; right = record { is = f.is.conclusion.right; has = f.typed.conclusion.right } };
+        is = record {
+          T = f.typed.conclusion.T;
+          left = record { is = f.is.conclusion.left; has = f.typed.conclusion.left };
+          right = record { is = f.is.conclusion.right; has = f.typed.conclusion.right };
+        };
         same = f.same;
       }
 
@@ -331,9 +380,11 @@ module _ (P : Program) (l : RawLemma) (some : HaveConstructors P) where
   lemma_breaks (BreaksFound.at_variables wrong) = headed_breaks wrong
   lemma_breaks (BreaksFound.at_heading headed wrong) = BreaksLemma.types headed.few wrong
   lemma_breaks (BreaksFound.at_premises {H = H} headed h wrong) =
-      BreaksLemma.equations {L = lemma_of H} headed.few (head_of h) (heading_written h) (fn_types_written_of h (headed_at headed h)) (in_premises (env H) (declaring_env H) wrong (l.conclusion ∷ []))
+      BreaksLemma.equations {L = lemma_of H} headed.few (head_of h) (heading_written h) (fn_types_written_of h (headed_at headed h))
+      (in_premises (env H) (declaring_env H) wrong (l.conclusion ∷ []))
   lemma_breaks (BreaksFound.at_conclusion {H = H} headed h are wrong) =
-      BreaksLemma.equations {L = lemma_of H} headed.few (head_of h) (heading_written h) (fn_types_written_of h (headed_at headed h)) (in_conclusion (env H) (declaring_env H) are wrong)
+      BreaksLemma.equations {L = lemma_of H} headed.few (head_of h) (heading_written h) (fn_types_written_of h (headed_at headed h))
+      (in_conclusion (env H) (declaring_env H) are wrong)
 
   -- equations behind a heading break a rule
   equations_break : {b : Broken} (H : Heading) → Headed P l → IsLemmaHeading P l H → BreaksEquations (env H) (l.premises ++ l.conclusion ∷ []) b → BreaksFound b
@@ -345,12 +396,18 @@ module _ (P : Program) (l : RawLemma) (some : HaveConstructors P) where
   breaks_lemma : {b : Broken} → BreaksLemma P l b → BreaksFound b
   breaks_lemma (BreaksLemma.many many_ e) = BreaksFound.at_variables (BreaksHeaded.of_many many_ e)
   breaks_lemma (BreaksLemma.types few wrong) = BreaksFound.at_variables (BreaksHeaded.of_types few wrong)
-  breaks_lemma (BreaksLemma.assumed {L = L} few head w wrong) = BreaksFound.at_variables (BreaksHeaded.of_assumed {H = record { funs = L.funs; vars = L.vars }} few (heading_by head w) wrong)
+  breaks_lemma (BreaksLemma.assumed {L = L} few head w wrong) =
+      BreaksFound.at_variables (BreaksHeaded.of_assumed {H = record { funs = L.funs; vars = L.vars }} few (heading_by head w) wrong)
   breaks_lemma {b} (BreaksLemma.equations {L = L} few head w funs wrong) =
       let H : Heading = record { funs = L.funs; vars = L.vars } in
       let h : IsLemmaHeading P l H = heading_by head w in
       let all : AllAssumed P L.funs 0 l.funs = assumed_of head.funs funs in
-      let here : BreaksEquations (env H) (l.premises ++ l.conclusion ∷ []) b = subst (λ (n : ℕ). BreaksEquations (record { program = P; place = behind (length P.declared); context = record { tparams = n; funs = L.funs; vars = live L.vars } }) (l.premises ++ l.conclusion ∷ []) b) head.tparams wrong in
+      let here : BreaksEquations (env H) (l.premises ++ l.conclusion ∷ []) b =
+      subst (λ (n : ℕ). BreaksEquations (record {
+        program = P;
+        place = behind (length P.declared);
+        context = record { tparams = n; funs = L.funs; vars = live L.vars };
+      }) (l.premises ++ l.conclusion ∷ []) b) head.tparams wrong in
       equations_break H (record { few = few; H = H; heading = h; assumed = all }) h here
 
   pub exact_lemma : Exact (onward (variables_found P l) (λ _. equations_found P l)) (LemmaStep P l) (BreaksLemma P l)

@@ -115,7 +115,8 @@ record IsPair (params : List Ty) (pair : Pair) : Type 0 where
   shape : params ≡ leading ++ pair.last ∷ pair.last ∷ []
   count : length leading ≡ pair.leading
 
-pair_is : (params leading : List Ty) (last : Ty) → params ≡ leading ++ last ∷ last ∷ [] → pair_of params ≡ Some (record { leading = length leading; last = last })
+pair_is : (params leading : List Ty) (last : Ty) → params ≡ leading ++ last ∷ last ∷ [] →
+    pair_of params ≡ Some (record { leading = length leading; last = last })
 pair_is params leading last e =
     ap pair_of e ∙ ap reversed_pair (reverse-append leading (last ∷ last ∷ [])) ∙ step
   where
@@ -123,7 +124,8 @@ pair_is params leading last e =
     step = rw ((decides_same last last).1 refl, length-reverse) refl
 
 module _ (params : List Ty) (pair : Pair) where
-  pair_at : (T U : Ty) (more : List Ty) → reverse params ≡ T ∷ U ∷ more → (b : Bool) → same U T ≡ b → ◌≡◌ {A = Option Pair} (if b then Some (record { leading = length more; last = T }) else None) (Some pair) → IsPair params pair
+  pair_at : (T U : Ty) (more : List Ty) → reverse params ≡ T ∷ U ∷ more → (b : Bool) → same U T ≡ b →
+      ◌≡◌ {A = Option Pair} (if b then Some (record { leading = length more; last = T }) else None) (Some pair) → IsPair params pair
   pair_at T U more e false s f = absurd (no_some f)
   pair_at T U more e true s f =
       let one : ◌≡◌ {A = Pair} (record { leading = length more; last = T }) pair = one_some f in
@@ -157,13 +159,15 @@ abbrev IsAsked : Prop → Ty → Pair → Type 0
 IsAsked p result pair = Asks p pair.last result × (pair.leading + named p ≤ CLAUSE_VARIABLES)
 
 decides_pair : (p : Prop) (result : Ty) (pair : Pair) → Decides (fits_pair p result pair) (IsAsked p result pair)
-decides_pair p result pair = Decides-and _ _ (decides_asked p pair.last result) (leb-true (pair.leading + named p) CLAUSE_VARIABLES, le-leb (pair.leading + named p) CLAUSE_VARIABLES)
+decides_pair p result pair = Decides-and _ _ (decides_asked p pair.last result)
+    (leb-true (pair.leading + named p) CLAUSE_VARIABLES, le-leb (pair.leading + named p) CLAUSE_VARIABLES)
 
 decides_type : (p : Prop) (s : List Ty × Ty) → Decides (passes (fits_pair p s.1) (pair_of s.0)) (IsSomeAnd (pair_of s.0) (IsAsked p s.1))
 decides_type p s = decides_passes (fits_pair p s.1) (IsAsked p s.1) (decides_pair p s.1) (pair_of s.0)
 
 module _ (P : Program) (funs : List FnType) (h : Head) (p : Prop) where
-  shaped_to : (o : Option (List Ty × Ty)) → shape_of P funs h ≡ o → IsSomeAnd o (λ (s : List Ty × Ty). IsSomeAnd (pair_of s.0) (IsAsked p s.1)) → Shaped P funs h p
+  shaped_to : (o : Option (List Ty × Ty)) → shape_of P funs h ≡ o → IsSomeAnd o (λ (s : List Ty × Ty). IsSomeAnd (pair_of s.0) (IsAsked p s.1)) →
+      Shaped P funs h p
   shaped_to None e some = absurd some
   shaped_to (Some s) e some = at (pair_of s.0) refl some
     where
@@ -171,16 +175,27 @@ module _ (P : Program) (funs : List FnType) (h : Head) (p : Prop) where
       at None f asked = absurd asked
       at (Some pair) f asked =
           let is = pair_from s.0 pair (reverse s.0) refl f in
-          record { params = s.0; result = s.1; leading = is.leading; last = pair.last; stands = e; pair = is.shape; asked = asked.0; few = subst (λ (n : ℕ). n + named p ≤ CLAUSE_VARIABLES) (sym is.count) asked.1 }
+          record {
+            params = s.0;
+            result = s.1;
+            leading = is.leading;
+            last = pair.last;
+            stands = e;
+            pair = is.shape;
+            asked = asked.0;
+            few = subst (λ (n : ℕ). n + named p ≤ CLAUSE_VARIABLES) (sym is.count) asked.1;
+          }
 
   to_shaped : Shaped P funs h p → IsSomeAnd (shape_of P funs h) (λ (s : List Ty × Ty). IsSomeAnd (pair_of s.0) (IsAsked p s.1))
   to_shaped is =
-      let asked : IsSomeAnd (pair_of is.params) (IsAsked p is.result) = subst (λ (q : Option Pair). IsSomeAnd q (IsAsked p is.result)) (sym (pair_is is.params is.leading is.last is.pair)) (is.asked, is.few) in
+      let asked : IsSomeAnd (pair_of is.params) (IsAsked p is.result) = subst (λ (q : Option Pair). IsSomeAnd q (IsAsked p is.result))
+      (sym (pair_is is.params is.leading is.last is.pair)) (is.asked, is.few) in
       subst (λ (o : Option (List Ty × Ty)). IsSomeAnd o (λ (s : List Ty × Ty). IsSomeAnd (pair_of s.0) (IsAsked p s.1))) (sym is.stands) asked
 
   decides_shaped : Decides (fits P funs h p) (Shaped P funs h p)
   unfolding fits
-  decides_shaped = Decides-like _ (shaped_to (shape_of P funs h) refl) to_shaped (decides_passes _ (λ (s : List Ty × Ty). IsSomeAnd (pair_of s.0) (IsAsked p s.1)) (decides_type p) (shape_of P funs h))
+  decides_shaped = Decides-like _ (shaped_to (shape_of P funs h) refl) to_shaped
+      (decides_passes _ (λ (s : List Ty × Ty). IsSomeAnd (pair_of s.0) (IsAsked p s.1)) (decides_type p) (shape_of P funs h))
 
 -- what a function gives of what may be there is there
 mapped_some : {A B : Type 0} (f : A → B) (o : Option A) (b : B) → option_map f o ≡ Some b → (a : A) × (o ≡ Some a) × (f a ≡ b)
@@ -189,12 +204,14 @@ mapped_some f (Some a) b e = (a, refl, one_some e)
 
 -- what the head takes and gives, where these types are put in
 abbrev Takes : Program → List FnType → Head → List Ty → List Ty → Ty → Type 0
-Takes P funs (Def n) types params T = (D : definition.Def) × (slice_get P.defs n ≡ Some D) × (params ≡ tys_instance types D.params) × (T ≡ ty_instance types D.result)
+Takes P funs (Def n) types params T = (D : definition.Def) × (slice_get P.defs n ≡ Some D) × (params ≡ tys_instance types D.params) ×
+    (T ≡ ty_instance types D.result)
 Takes P funs Wle types params T = (params ≡ type.Word ∷ type.Word ∷ []) × (T ≡ bool_type)
 Takes P funs Weq types params T = (params ≡ type.Word ∷ type.Word ∷ []) × (T ≡ bool_type)
 Takes P funs (FnVar i) types params T = (F : FnType) × (slice_get funs i ≡ Some F) × (params ≡ F.params) × (T ≡ F.result)
 
-takes_of : (P : Program) (context : Context) (f : Fun) (takes : List FnType) (params : List Ty) (T : Ty) → IsFunction P context f takes params T → Takes P context.funs f.head f.types params T
+takes_of : (P : Program) (context : Context) (f : Fun) (takes : List FnType) (params : List Ty) (T : Ty) → IsFunction P context f takes params T →
+    Takes P context.funs f.head f.types params T
 takes_of P context _ takes params T (typing.of_definition {D = D} found few types takes_is params_is result_is) = (D, found, params_is, result_is)
 takes_of P context _ takes params T (typing.at_most is) = (refl, is)
 takes_of P context _ takes params T (typing.equal is) = (refl, is)
@@ -202,18 +219,31 @@ takes_of P context _ takes params T (typing.of_variable {F = F} found params_is 
 
 module _ (P : Program) (funs : List FnType) (p : Prop) where
   -- what a subject says of the shape
-  shaped_as : (h : Head) (s : Subject) (params : List Ty) (clause : Clause) (tparams : ℕ) (own : List FnType) → shape_of P funs h ≡ Some (params, s.result) → params ≡ s.leading ++ s.last ∷ s.last ∷ [] → HasResult s p → clause ≡ clause_for s p tparams own → length clause.vars ≤ CLAUSE_VARIABLES → Shaped P funs h p
+  shaped_as : (h : Head) (s : Subject) (params : List Ty) (clause : Clause) (tparams : ℕ) (own : List FnType) → shape_of P funs h ≡ Some (params, s.result) →
+      params ≡ s.leading ++ s.last ∷ s.last ∷ [] → HasResult s p → clause ≡ clause_for s p tparams own → length clause.vars ≤ CLAUSE_VARIABLES → Shaped P funs h
+      p
   shaped_as h s params clause tparams own stands pair asked is few =
       let count : length clause.vars ≡ length s.leading + named p = ap (λ (c : Clause). length c.vars) is ∙ clause_variables s p tparams own in
-      record { params = params; result = s.result; leading = s.leading; last = s.last; stands = stands; pair = pair; asked = asks_of s p asked; few = subst (λ (n : ℕ). n ≤ CLAUSE_VARIABLES) count few }
+      record {
+        params = params;
+        result = s.result;
+        leading = s.leading;
+        last = s.last;
+        stands = stands;
+        pair = pair;
+        asked = asks_of s p asked;
+        few = subst (λ (n : ℕ). n ≤ CLAUSE_VARIABLES) count few;
+      }
 
   shaped_clause : (h : Head) (clause : Clause) → IsClauseOf P funs h p clause → length clause.vars ≤ CLAUSE_VARIABLES → Shaped P funs h p
   shaped_clause _ clause (clauses.of_definition {n = n} {D = D} found s is asked clause_is) few =
-      let takes = takes_of P (functions_alone D.tparams D.funs) (record { head = Def n; types = own_types D.tparams }) is.takes is.params s.result is.function in
+      let takes = takes_of P (functions_alone D.tparams D.funs) (record { head = Def n; types = own_types D.tparams }) is.takes is.params s.result
+      is.function in
       let same_def : takes.0 ≡ D = one_some (sym takes.1 ∙ found) in
       let params : D.params ≡ is.params = ap (λ (d : definition.Def). d.params) (sym same_def) ∙ (sym (list_stays D.tparams takes.0.params) ∙ sym takes.2) in
       let result : D.result ≡ s.result = ap (λ (d : definition.Def). d.result) (sym same_def) ∙ (sym (stays D.tparams takes.0.result) ∙ sym takes.3) in
-      let stands : shape_of P funs (Def n) ≡ Some (is.params, s.result) = ap (option_map (λ (d : definition.Def). (d.params, d.result))) found ∙ (λ i. Some (params i, result i)) in
+      let stands : shape_of P funs (Def n) ≡ Some (is.params, s.result) = ap (option_map (λ (d : definition.Def). (d.params, d.result))) found ∙
+      (λ i. Some (params i, result i)) in
       shaped_as (Def n) s is.params clause D.tparams D.funs stands is.shape asked clause_is few
   shaped_clause _ clause (clauses.of_at_most s is asked clause_is) few =
       let takes = takes_of P (functions_alone 0 funs) (record { head = Wle; types = [] }) is.takes is.params s.result is.function in
@@ -225,7 +255,8 @@ module _ (P : Program) (funs : List FnType) (p : Prop) where
       shaped_as Weq s is.params clause 0 [] stands is.shape asked clause_is few
   shaped_clause _ clause (clauses.of_variable {i = i} s is asked clause_is) few =
       let takes = takes_of P (functions_alone 0 funs) (record { head = FnVar i; types = [] }) is.takes is.params s.result is.function in
-      let stands : shape_of P funs (FnVar i) ≡ Some (is.params, s.result) = ap (option_map (λ (F : FnType). (F.params, F.result))) takes.1 ∙ (λ j. Some (sym takes.2 j, sym takes.3 j)) in
+      let stands : shape_of P funs (FnVar i) ≡ Some (is.params, s.result) = ap (option_map (λ (F : FnType). (F.params, F.result))) takes.1 ∙
+      (λ j. Some (sym takes.2 j, sym takes.3 j)) in
       shaped_as (FnVar i) s is.params clause 0 [] stands is.shape asked clause_is few
 
   pub fits_shaped : (h : Head) → Fits P funs h p → Shaped P funs h p
@@ -233,16 +264,26 @@ module _ (P : Program) (funs : List FnType) (p : Prop) where
 
   -- the function with its own variables put in, by its signature and the types of its parameters
   abbrev subject : Head → ℕ → ℕ → List Ty → Ty → Ty → Subject
-  subject h tparams count leading last result = record { function = record { head = h; types = own_types tparams }; given = own_functions count; leading = leading; last = last; result = result }
+  subject h tparams count leading last result = record {
+    function = record { head = h; types = own_types tparams };
+    given = own_functions count;
+    leading = leading;
+    last = last;
+    result = result;
+  }
 
-  few_variables : (s : Subject) (tparams : ℕ) (own : List FnType) → length s.leading + named p ≤ CLAUSE_VARIABLES → length (clause_for s p tparams own).vars ≤ CLAUSE_VARIABLES
+  few_variables : (s : Subject) (tparams : ℕ) (own : List FnType) → length s.leading + named p ≤ CLAUSE_VARIABLES →
+      length (clause_for s p tparams own).vars ≤ CLAUSE_VARIABLES
   few_variables s tparams own few = subst (λ (n : ℕ). n ≤ CLAUSE_VARIABLES) (sym (clause_variables s p tparams own)) few
 
-  fits_definition : (n : ℕ) (D : definition.Def) (leading : List Ty) (last : Ty) → slice_get P.defs n ≡ Some D → D.params ≡ leading ++ last ∷ last ∷ [] → Asks p last D.result → length leading + named p ≤ CLAUSE_VARIABLES → Fits P funs (Def n) p
+  fits_definition : (n : ℕ) (D : definition.Def) (leading : List Ty) (last : Ty) → slice_get P.defs n ≡ Some D → D.params ≡ leading ++ last ∷ last ∷ [] →
+      Asks p last D.result → length leading + named p ≤ CLAUSE_VARIABLES → Fits P funs (Def n) p
   fits_definition n D leading last found pair asked few =
       let s = subject (Def n) D.tparams (length D.funs) leading last D.result in
-      let function = typing.of_definition found (length-numbered (λ (i : ℕ). type.Var i) 0 D.tparams) (are_types P D.tparams) refl (sym (list_stays D.tparams D.params)) (sym (stays D.tparams D.result)) in
-      let taken = length-numbered {A = Fun} (λ (i : ℕ). record { head = FnVar i; types = [] }) 0 (length D.funs) ∙ sym (length-map D.funs (fn_type_instance (own_types D.tparams))) in
+      let function = typing.of_definition found (length-numbered (λ (i : ℕ). type.Var i) 0 D.tparams) (are_types P D.tparams) refl
+      (sym (list_stays D.tparams D.params)) (sym (stays D.tparams D.result)) in
+      let taken = length-numbered {A = Fun} (λ (i : ℕ). record { head = FnVar i; types = [] }) 0 (length D.funs) ∙ sym
+      (length-map D.funs (fn_type_instance (own_types D.tparams))) in
       record {
         clause = clause_for s p D.tparams D.funs;
         says = clauses.of_definition found s (record {
@@ -258,8 +299,18 @@ module _ (P : Program) (funs : List FnType) (p : Prop) where
       }
 
   -- a function without variables of its own is a subject
-  is_plain : (h : Head) (params leading : List Ty) (last result : Ty) → IsFunction P (functions_alone 0 funs) (record { head = h; types = [] }) [] params result → params ≡ leading ++ last ∷ last ∷ [] → IsSubject P (functions_alone 0 funs) (record { head = h; types = [] }) [] (subject h 0 0 leading last result)
-  is_plain h params leading last result function pair = record { takes = []; params = params; function = function; taken = refl; shape = pair; is_function = refl; is_given = refl }
+  is_plain : (h : Head) (params leading : List Ty) (last result : Ty) →
+      IsFunction P (functions_alone 0 funs) (record { head = h; types = [] }) [] params result → params ≡ leading ++ last ∷ last ∷ [] → IsSubject P
+      (functions_alone 0 funs) (record { head = h; types = [] }) [] (subject h 0 0 leading last result)
+  is_plain h params leading last result function pair = record {
+    takes = [];
+    params = params;
+    function = function;
+    taken = refl;
+    shape = pair;
+    is_function = refl;
+    is_given = refl;
+  }
 
   pub shaped_fits : (h : Head) → Shaped P funs h p → Fits P funs h p
   shaped_fits (Def n) is =
@@ -272,7 +323,8 @@ module _ (P : Program) (funs : List FnType) (p : Prop) where
       let s = subject Wle 0 0 is.leading is.last bool_type in
       record {
         clause = clause_for s p 0 [];
-        says = clauses.of_at_most s (is_plain Wle (type.Word ∷ type.Word ∷ []) is.leading is.last bool_type (typing.at_most refl) (ap (λ (x : List Ty × Ty). x.0) one ∙ is.pair)) (result_of s p (subst (Asks p is.last) (sym (ap (λ (x : List Ty × Ty). x.1) one)) is.asked)) refl;
+        says = clauses.of_at_most s (is_plain Wle (type.Word ∷ type.Word ∷ []) is.leading is.last bool_type (typing.at_most refl)
+            (ap (λ (x : List Ty × Ty). x.0) one ∙ is.pair)) (result_of s p (subst (Asks p is.last) (sym (ap (λ (x : List Ty × Ty). x.1) one)) is.asked)) refl;
         few = few_variables s 0 [] is.few;
       }
   shaped_fits Weq is =
@@ -280,7 +332,8 @@ module _ (P : Program) (funs : List FnType) (p : Prop) where
       let s = subject Weq 0 0 is.leading is.last bool_type in
       record {
         clause = clause_for s p 0 [];
-        says = clauses.of_equal s (is_plain Weq (type.Word ∷ type.Word ∷ []) is.leading is.last bool_type (typing.equal refl) (ap (λ (x : List Ty × Ty). x.0) one ∙ is.pair)) (result_of s p (subst (Asks p is.last) (sym (ap (λ (x : List Ty × Ty). x.1) one)) is.asked)) refl;
+        says = clauses.of_equal s (is_plain Weq (type.Word ∷ type.Word ∷ []) is.leading is.last bool_type (typing.equal refl)
+            (ap (λ (x : List Ty × Ty). x.0) one ∙ is.pair)) (result_of s p (subst (Asks p is.last) (sym (ap (λ (x : List Ty × Ty). x.1) one)) is.asked)) refl;
         few = few_variables s 0 [] is.few;
       }
   shaped_fits (FnVar i) is =
@@ -290,7 +343,8 @@ module _ (P : Program) (funs : List FnType) (p : Prop) where
       let s = subject (FnVar i) 0 0 is.leading is.last found.0.result in
       record {
         clause = clause_for s p 0 [];
-        says = clauses.of_variable s (is_plain (FnVar i) found.0.params is.leading is.last found.0.result (typing.of_variable found.1 refl refl) (params ∙ is.pair)) (result_of s p (subst (Asks p is.last) (sym result) is.asked)) refl;
+        says = clauses.of_variable s (is_plain (FnVar i) found.0.params is.leading is.last found.0.result (typing.of_variable found.1 refl refl)
+            (params ∙ is.pair)) (result_of s p (subst (Asks p is.last) (sym result) is.asked)) refl;
         few = few_variables s 0 [] is.few;
       }
 
@@ -299,7 +353,17 @@ pub decides_fits : (P : Program) (funs : List FnType) (h : Head) (p : Prop) → 
 decides_fits P funs h p = Decides-like _ (shaped_fits P funs p h) (fits_shaped P funs p h) (decides_shaped P funs h p)
 
 -- the same property fits what has the same type
-pub fits_again : {P Q : Program} {funs others : List FnType} {h k : Head} {p : Prop} → shape_of P funs h ≡ shape_of Q others k → Fits P funs h p → Fits Q others k p
+pub fits_again : {P Q : Program} {funs others : List FnType} {h k : Head} {p : Prop} → shape_of P funs h ≡ shape_of Q others k → Fits P funs h p →
+    Fits Q others k p
 fits_again {P} {Q} {funs} {others} {h} {k} {p} e fit =
     let is = fits_shaped P funs p h fit in
-    shaped_fits Q others p k (record { params = is.params; result = is.result; leading = is.leading; last = is.last; stands = sym e ∙ is.stands; pair = is.pair; asked = is.asked; few = is.few })
+    shaped_fits Q others p k (record {
+      params = is.params;
+      result = is.result;
+      leading = is.leading;
+      last = is.last;
+      stands = sym e ∙ is.stands;
+      pair = is.pair;
+      asked = is.asked;
+      few = is.few;
+    })

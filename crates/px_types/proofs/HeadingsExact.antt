@@ -52,13 +52,18 @@ module _ (P : Program) (tparams : ℕ) where
   none_written : HasWritten P tparams []
   none_written = record { types = []; right = record { are = written.none; written = All-nil (IsWritten P tparams) } }
 
-  written_more : {raw : RawTy} {raws : List RawTy} {types : List Ty} → AreRight P tparams (raw ∷ []) types → HasWritten P tparams raws → HasWritten P tparams (raw ∷ raws)
+  written_more : {raw : RawTy} {raws : List RawTy} {types : List Ty} → AreRight P tparams (raw ∷ []) types → HasWritten P tparams raws →
+      HasWritten P tparams (raw ∷ raws)
   written_more {raw} {raws} right rest = go right.are right.written
     where
       go : {types : List Ty} → AreTys (raw ∷ []) types → AreWritten P tparams types → HasWritten P tparams (raw ∷ raws)
       go (written.more {T = T} is are) all = record {
         types = T ∷ rest.types;
-        right = record { are = written.more is rest.right.are; written = All-cons (IsWritten P tparams) T rest.types (All-head (IsWritten P tparams) T _ all) rest.right.written };
+        right = record {
+          are = written.more is rest.right.are;
+          written = All-cons (IsWritten P tparams) T rest.types
+              (All-head (IsWritten P tparams) T _ all) rest.right.written;
+        };
       }
 
   -- The first of written types, and the others.
@@ -73,7 +78,11 @@ module _ (P : Program) (tparams : ℕ) where
       go : {types : List Ty} → AreTys (raw ∷ raws) types → AreWritten P tparams types → Parted raw raws
       go (written.more {T = T} {types = types} is are) all = record {
         T = T;
-        one = record { are = written.more is written.none; written = All-cons (IsWritten P tparams) T [] (All-head (IsWritten P tparams) T types all) (All-nil (IsWritten P tparams)) };
+        one = record {
+          are = written.more is written.none;
+          written = All-cons (IsWritten P tparams) T [] (All-head (IsWritten P tparams) T types all)
+              (All-nil (IsWritten P tparams));
+        };
         others = record { types = types; right = record { are = are; written = All-tail (IsWritten P tparams) T types all } };
       }
 
@@ -98,7 +107,8 @@ module _ (P : Program) (tparams : ℕ) where
   behind [] all br = br
   behind (x ∷ xs) all br = let parts = parted all in faults.later parts.one (behind xs parts.others br)
 
-  pub split : (xs ys : List RawTy) {b : Broken} → BreaksTys P tparams (xs ++ ys) b → BreaksTys P tparams xs b ⊎ (HasWritten P tparams xs × BreaksTys P tparams ys b)
+  pub split : (xs ys : List RawTy) {b : Broken} → BreaksTys P tparams (xs ++ ys) b →
+      BreaksTys P tparams xs b ⊎ (HasWritten P tparams xs × BreaksTys P tparams ys b)
   split [] ys br = inr (none_written, br)
   split (x ∷ xs) ys (faults.here br) = inl (faults.here br)
   split (x ∷ xs) ys (faults.later right br) = elim (split xs ys br) [
@@ -111,7 +121,10 @@ module _ (P : Program) (tparams : ℕ) where
   single (faults.later right br) = elim br [ ]
 
   pub one_written : {raw : RawTy} {T : Ty} → IsRight P tparams raw T → HasWritten P tparams (raw ∷ [])
-  one_written {raw} {T} is = record { types = T ∷ []; right = record { are = written.more is.is written.none; written = All-cons (IsWritten P tparams) T [] is.written (All-nil (IsWritten P tparams)) } }
+  one_written {raw} {T} is = record {
+    types = T ∷ [];
+    right = record { are = written.more is.is written.none; written = All-cons (IsWritten P tparams) T [] is.written (All-nil (IsWritten P tparams)) };
+  }
 
   -- types that are written and break no rule are these
   pub these_written : {raws : List RawTy} {types : List Ty} → AreTys raws types → HasWritten P tparams raws → AreWritten P tparams types
@@ -130,7 +143,8 @@ module _ (P : Program) (tparams : ℕ) where
   fn_type_written raw = raw.params ++ raw.result ∷ []
 
   fn_written : {raw : RawFnType} {F : FnType} → IsRightFnTy raw F → HasWritten P tparams (fn_type_written raw)
-  fn_written {raw} {F} is = written_both raw.params (record { types = F.params; right = record { are = is.is.params; written = is.written.params } }) (one_written (record { is = is.is.result; written = is.written.result }))
+  fn_written {raw} {F} is = written_both raw.params (record { types = F.params; right = record { are = is.is.params; written = is.written.params } })
+      (one_written (record { is = is.is.result; written = is.written.result }))
 
   exact_fn_type : (raw : RawFnType) → Exact (fn_type_found P tparams raw) (IsRightFnTy raw) (BreaksTys P tparams (fn_type_written raw))
   unfolding fn_type_found
@@ -145,7 +159,11 @@ module _ (P : Program) (tparams : ℕ) where
       (λ F is. record {
         x = F.params;
         is = record { are = is.is.params; written = is.written.params };
-        after = record { x = F.result; is = record { is = is.is.result; written = is.written.result }; after = λ i. record { params = F.params; result = F.result; props = is.is.props i } };
+        after = record {
+          x = F.result;
+          is = record { is = is.is.result; written = is.written.result };
+          after = λ i. record { params = F.params; result = F.result; props = is.is.props i };
+        };
       })
       (λ b br. elim br [
         | first wrong ↦ front wrong (raw.result ∷ [])
@@ -166,7 +184,8 @@ module _ (P : Program) (tparams : ℕ) where
       let result = parted (written_behind raw.params (raw.result ∷ []) w) in
       (record { params = params.types; result = result.T; props = set_of (props_of raw.props) }, go params result)
     where
-      go : (params : HasWritten P tparams raw.params) (result : Parted raw.result []) → IsRightFnTy raw (record { params = params.types; result = result.T; props = set_of (props_of raw.props) })
+      go : (params : HasWritten P tparams raw.params) (result : Parted raw.result []) →
+          IsRightFnTy raw (record { params = params.types; result = result.T; props = set_of (props_of raw.props) })
       go params result = record {
         is = record { params = params.right.are; result = first_is result.one.are; props = refl };
         written = record { params = params.right.written; result = All-head (IsWritten P tparams) result.T [] result.one.written };
@@ -175,18 +194,21 @@ module _ (P : Program) (tparams : ℕ) where
           first_is : {raw : RawTy} {T : Ty} → AreTys (raw ∷ []) (T ∷ []) → IsTy raw T
           first_is (written.more is are) = is
 
-  pub broken_fn_types : {raws : List RawFnType} {b : Broken} → OneBreaks IsRightFnTy (λ (raw : RawFnType). BreaksTys P tparams (fn_type_written raw)) raws b → BreaksTys P tparams (fn_types_written raws) b
+  pub broken_fn_types : {raws : List RawFnType} {b : Broken} → OneBreaks IsRightFnTy (λ (raw : RawFnType). BreaksTys P tparams (fn_type_written raw)) raws b →
+      BreaksTys P tparams (fn_types_written raws) b
   broken_fn_types (exact.here {xs = raws} br) = front br (fn_types_written raws)
   broken_fn_types (exact.behind {x = raw} is br) = behind (fn_type_written raw) (fn_written is) (broken_fn_types br)
 
-  pub fn_types_broken : (raws : List RawFnType) {b : Broken} → BreaksTys P tparams (fn_types_written raws) b → OneBreaks IsRightFnTy (λ (raw : RawFnType). BreaksTys P tparams (fn_type_written raw)) raws b
+  pub fn_types_broken : (raws : List RawFnType) {b : Broken} → BreaksTys P tparams (fn_types_written raws) b →
+      OneBreaks IsRightFnTy (λ (raw : RawFnType). BreaksTys P tparams (fn_type_written raw)) raws b
   fn_types_broken [] br = elim br [ ]
   fn_types_broken (raw ∷ raws) br = elim (split (fn_type_written raw) (fn_types_written raws) br) [
     | inl wrong ↦ exact.here wrong
     | inr rest ↦ exact.behind (fn_of_written raw rest.0).1 (fn_types_broken raws rest.1)
   ]
 
-  every_fn_type : (raws : List RawFnType) → Every (λ (raw : RawFnType). Exact (fn_type_found P tparams raw) (IsRightFnTy raw) (BreaksTys P tparams (fn_type_written raw))) raws
+  every_fn_type : (raws : List RawFnType) →
+      Every (λ (raw : RawFnType). Exact (fn_type_found P tparams raw) (IsRightFnTy raw) (BreaksTys P tparams (fn_type_written raw))) raws
   every_fn_type [] = tt
   every_fn_type (raw ∷ raws) = (exact_fn_type raw, every_fn_type raws)
 
@@ -196,7 +218,8 @@ module _ (P : Program) (tparams : ℕ) where
 
   pub exact_fn_types : (raws : List RawFnType) → Exact (fn_types_found P tparams raws) (AreRightFnTys raws) (BreaksTys P tparams (fn_types_written raws))
   unfolding fn_types_found
-  exact_fn_types raws = exact_as (exact_each (fn_type_found P tparams) IsRightFnTy (λ (raw : RawFnType). BreaksTys P tparams (fn_type_written raw)) raws (every_fn_type raws)) (λ funs all. all) (λ funs all. all) (λ b br. broken_fn_types br) (λ b br. fn_types_broken raws br)
+  exact_fn_types raws = exact_as (exact_each (fn_type_found P tparams) IsRightFnTy (λ (raw : RawFnType). BreaksTys P tparams (fn_type_written raw)) raws
+      (every_fn_type raws)) (λ funs all. all) (λ funs all. all) (λ b br. broken_fn_types br) (λ b br. fn_types_broken raws br)
 
   pub fn_tys_of : {raws : List RawFnType} {funs : List FnType} → AreRightFnTys raws funs → AreFnTys raws funs
   fn_tys_of exact.none = written.none
@@ -208,7 +231,8 @@ module _ (P : Program) (tparams : ℕ) where
 
   pub right_fn_types : {raws : List RawFnType} {funs : List FnType} → AreFnTys raws funs → All (IsWrittenFnType P tparams) funs → AreRightFnTys raws funs
   right_fn_types written.none all = exact.none
-  right_fn_types (written.more {F = F} {funs = funs} is are) all = exact.more (record { is = is; written = All-head (IsWrittenFnType P tparams) F funs all }) (right_fn_types are (All-tail (IsWrittenFnType P tparams) F funs all))
+  right_fn_types (written.more {F = F} {funs = funs} is are) all = exact.more (record { is = is; written = All-head (IsWrittenFnType P tparams) F funs all })
+      (right_fn_types are (All-tail (IsWrittenFnType P tparams) F funs all))
 
   pub all_written : {raws : List RawFnType} {funs : List FnType} → AreRightFnTys raws funs → HasWritten P tparams (fn_types_written raws)
   all_written exact.none = none_written
@@ -222,13 +246,15 @@ module _ (P : Program) (tparams : ℕ) where
       (one.0 ∷ rest.0, exact.more one.1 rest.1)
 
   -- function types that are written and break no rule are these
-  pub these_fn_types : {raws : List RawFnType} {funs : List FnType} → AreFnTys raws funs → HasWritten P tparams (fn_types_written raws) → AreRightFnTys raws funs
+  pub these_fn_types : {raws : List RawFnType} {funs : List FnType} → AreFnTys raws funs → HasWritten P tparams (fn_types_written raws) →
+      AreRightFnTys raws funs
   these_fn_types written.none w = exact.none
   these_fn_types (written.more {raw = raw} {raws = raws} is are) w =
       let own = written_front (fn_type_written raw) (fn_types_written raws) w in
       let params = written_front raw.params (raw.result ∷ []) own in
       let result = written_behind raw.params (raw.result ∷ []) own in
-      exact.more (record { is = is; written = record { params = these_written is.params params; result = this_written is.result result } }) (these_fn_types are (written_behind (fn_type_written raw) (fn_types_written raws) w))
+      exact.more (record { is = is; written = record { params = these_written is.params params; result = this_written is.result result } })
+      (these_fn_types are (written_behind (fn_type_written raw) (fn_types_written raws) w))
 
 -- The signature of a definition is this one, its types break no rule, and its body isn't looked at yet.
 pub record IsHeading (P : Program) (d : RawDef) (D : Def) : Type 0 where
@@ -262,7 +288,14 @@ module _ (P : Program) (d : RawDef) where
           after = record {
             x = D.result;
             is = record { is = h.signature.result; written = h.result };
-            after = λ i. record { tparams = h.signature.tparams i; funs = D.funs; params = D.params; result = D.result; body = h.body i; seen = h.signature.stands i };
+            after = λ i. record {
+              tparams = h.signature.tparams i;
+              funs = D.funs;
+              params = D.params;
+              result = D.result;
+              body = h.body i;
+              seen = h.signature.stands i;
+            };
           };
         };
       })
@@ -289,7 +322,13 @@ module _ (P : Program) (d : RawDef) where
   heading_of {D} signature w =
       let values = written_behind P d.tparams (fn_types_written d.funs) (d.params ++ d.result ∷ []) w in
       record {
-        signature = record { tparams = signature.tparams; funs = signature.funs; params = signature.params; result = signature.result; stands = signature.stands };
+        signature = record {
+          tparams = signature.tparams;
+          funs = signature.funs;
+          params = signature.params;
+          result = signature.result;
+          stands = signature.stands;
+        };
         funs = these_fn_types P d.tparams signature.funs (written_front P d.tparams (fn_types_written d.funs) (d.params ++ d.result ∷ []) w);
         params = these_written P d.tparams signature.params (written_front P d.tparams d.params (d.result ∷ []) values);
         result = this_written P d.tparams signature.result (written_behind P d.tparams d.params (d.result ∷ []) values);
@@ -298,7 +337,9 @@ module _ (P : Program) (d : RawDef) where
 
   -- and the types of a heading are written ones
   pub heading_written : {D : Def} → IsHeading P d D → HasWritten P d.tparams (signature_written d)
-  heading_written {D} h = written_both P d.tparams (fn_types_written d.funs) (all_written P d.tparams h.funs) (written_both P d.tparams d.params (record { types = D.params; right = record { are = h.signature.params; written = h.params } }) (one_written P d.tparams (record { is = h.signature.result; written = h.result })))
+  heading_written {D} h = written_both P d.tparams (fn_types_written d.funs) (all_written P d.tparams h.funs)
+      (written_both P d.tparams d.params (record { types = D.params; right = record { are = h.signature.params; written = h.params } })
+      (one_written P d.tparams (record { is = h.signature.result; written = h.result })))
 
 -- What stands before a lemma's equations is this, and its types break no rule.
 pub record IsLemmaHeading (P : Program) (l : RawLemma) (H : Heading) : Type 0 where
@@ -319,7 +360,8 @@ exact_lemma_heading P l = exact_as
     (λ H h. record { x = H.funs; is = h.funs; after = record { x = H.vars; is = h.vars; after = refl } })
     (λ b br. elim br [
       | first wrong ↦ front P l.tparams wrong l.vars
-      | later funs right_funs h ↦ behind P l.tparams (fn_types_written l.funs) (all_written P l.tparams right_funs) (elim h [ first wrong ↦ wrong | later vars right nothing ↦ absurd nothing ])
+      | later funs right_funs h ↦ behind P l.tparams (fn_types_written l.funs) (all_written P l.tparams right_funs)
+          (elim h [ first wrong ↦ wrong | later vars right nothing ↦ absurd nothing ])
     ])
     (λ b br. elim (split P l.tparams (fn_types_written l.funs) l.vars br) [
       | inl wrong ↦ first wrong

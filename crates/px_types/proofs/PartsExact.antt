@@ -21,7 +21,9 @@ use Rattle.px_types.proofs.AllExact.{exact_term}
 module _ (E : Env) (declaring : IsDeclaring E) (raw : RawTerm) (wanted : Ty) where
   -- how a part breaks a rule, turn by turn
   abbrev PartBreaks : Broken → Type 0
-  PartBreaks = Either {S = Unit {0}} (λ _. IsMet E.place wanted) (λ b. (IsMet E.place wanted → ⊥) × (b ≡ breaks Oversize (part_of E raw).at)) (λ _. Either (λ (found : Typed). IsTyped E [] (out-RawKind raw.kind) found.term found.ty) (Breaks E [] raw.at (out-RawKind raw.kind)) (λ (found : Typed). Either {S = Unit {0}} (λ _. found.ty ≡ wanted) (λ b. (found.ty ≡ wanted → ⊥) × (b ≡ breaks Mismatch (part_of E raw).at)) (λ _ _. ⊥)))
+  PartBreaks = Either {S = Unit {0}} (λ _. IsMet E.place wanted) (λ b. (IsMet E.place wanted → ⊥) × (b ≡ breaks Oversize (part_of E raw).at))
+      (λ _. Either (λ (found : Typed). IsTyped E [] (out-RawKind raw.kind) found.term found.ty) (Breaks E [] raw.at (out-RawKind raw.kind))
+      (λ (found : Typed). Either {S = Unit {0}} (λ _. found.ty ≡ wanted) (λ b. (found.ty ≡ wanted → ⊥) × (b ≡ breaks Mismatch (part_of E raw).at)) (λ _ _. ⊥)))
 
   part_breaks : {b : Broken} → PartBreaks b → BreaksParts E [] (raw ∷ []) (wanted ∷ []) b
   part_breaks (first over) = faults.wanted_size over.0 (over.1 ∙ ap (breaks Oversize) (part_at E raw))
@@ -32,10 +34,12 @@ module _ (E : Env) (declaring : IsDeclaring E) (raw : RawTerm) (wanted : Ty) whe
   breaks_part : {b : Broken} → BreaksParts E [] (raw ∷ []) (wanted ∷ []) b → PartBreaks b
   breaks_part (faults.wanted_size over e) = first (over, e ∙ ap (breaks Oversize) (sym (part_at E raw)))
   breaks_part (faults.in_part met br) = later tt met (first br)
-  breaks_part (faults.other_type {t = t} {U = U} met typed other e) = later tt met (later (record { term = t; ty = U }) typed (first (other, e ∙ ap (breaks Mismatch) (sym (part_at E raw)))))
+  breaks_part (faults.other_type {t = t} {U = U} met typed other e) =
+      later tt met (later (record { term = t; ty = U }) typed (first (other, e ∙ ap (breaks Mismatch) (sym (part_at E raw)))))
   breaks_part (faults.later_part typed br) = elim br [ ]
 
-  pub exact_one_part : Exact (part_found E [] (part_of E raw) wanted) (λ (t : Term). IsTyped E [] (out-RawKind raw.kind) t wanted) (BreaksParts E [] (raw ∷ []) (wanted ∷ []))
+  pub exact_one_part : Exact (part_found E [] (part_of E raw) wanted) (λ (t : Term). IsTyped E [] (out-RawKind raw.kind) t wanted)
+      (BreaksParts E [] (raw ∷ []) (wanted ∷ []))
   unfolding part_found term_found
   exact_one_part = exact_as
       (exact_then (exact_needs _ Oversize (part_of E raw).at (decides_met E.place wanted)) (λ _ met.
@@ -43,7 +47,11 @@ module _ (E : Env) (declaring : IsDeclaring E) (raw : RawTerm) (wanted : Ty) whe
       exact_then (exact_needs _ Mismatch (part_of E raw).at (decides_same found.ty wanted)) (λ _ e.
       exact_ok found.term))))
       (λ t both. let rest = both.after in rw (rest.after.after, ← rest.after.is) rest.is)
-      (λ t typed. record { x = tt; is = type_is_met E.program E.place E.context declaring.some typed.has; after = record { x = record { term = t; ty = wanted }; is = typed; after = record { x = tt; is = refl; after = refl } } })
+      (λ t typed. record {
+        x = tt;
+        is = type_is_met E.program E.place E.context declaring.some typed.has;
+        after = record { x = record { term = t; ty = wanted }; is = typed; after = record { x = tt; is = refl; after = refl } };
+      })
       (λ b br. part_breaks br)
       (λ b br. breaks_part br)
 

@@ -24,7 +24,8 @@ module _ (raw : RawProgram) where
   none_left : {P Q : Program} → AreNext raw P [] Q → P ≡ Q
   none_left AreNext.none = refl
 
-  exact_order : (order : List Decl) (P : Program) (C : fitting.Counts) → Stands P C → AreInOrder raw C order → Exact (along (next_found raw) P order) (AreNext raw P order) (OrderBreaks raw P order)
+  exact_order : (order : List Decl) (P : Program) (C : fitting.Counts) → Stands P C → AreInOrder raw C order →
+      Exact (along (next_found raw) P order) (AreNext raw P order) (OrderBreaks raw P order)
   unfolding along
   exact_order [] P C stands in_order = record { says = AreNext.none; ok = λ Q next. ap Ok (none_left next); err = λ b br. elim br [ ] }
   exact_order (d ∷ rest) P C stands in_order = exact_as
@@ -52,12 +53,29 @@ module _ (raw : RawProgram) where
     broken : BreaksNext raw Q next b
 
   placed : {P : Program} {order : List Decl} {b : Broken} → OrderBreaks raw P order b → Placed P order b
-  placed (OrderBreaks.here {P = P} {d = d} {rest = rest} wrong) = record { before = []; next = d; after = rest; Q = P; order_is = refl; typed = AreNext.none; broken = wrong }
+  placed (OrderBreaks.here {P = P} {d = d} {rest = rest} wrong) = record {
+    before = [];
+    next = d;
+    after = rest;
+    Q = P;
+    order_is = refl;
+    typed = AreNext.none;
+    broken = wrong;
+  }
   placed (OrderBreaks.beyond {d = d} is wrong) =
       let p = placed wrong in
-      record { before = d ∷ p.before; next = p.next; after = p.after; Q = p.Q; order_is = ap (λ (ds : List Decl). d ∷ ds) p.order_is; typed = AreNext.more is p.typed; broken = p.broken }
+      record {
+        before = d ∷ p.before;
+        next = p.next;
+        after = p.after;
+        Q = p.Q;
+        order_is = ap (λ (ds : List Decl). d ∷ ds) p.order_is;
+        typed = AreNext.more is p.typed;
+        broken = p.broken;
+      }
 
-  at_place : {P Q : Program} {before : List Decl} (next : Decl) (after : List Decl) {b : Broken} → AreNext raw P before Q → BreaksNext raw Q next b → OrderBreaks raw P (before ++ next ∷ after) b
+  at_place : {P Q : Program} {before : List Decl} (next : Decl) (after : List Decl) {b : Broken} → AreNext raw P before Q → BreaksNext raw Q next b →
+      OrderBreaks raw P (before ++ next ∷ after) b
   at_place next after AreNext.none wrong = OrderBreaks.here wrong
   at_place next after (AreNext.more is are) wrong = OrderBreaks.beyond is (at_place next after are wrong)
 
@@ -76,7 +94,8 @@ module _ (raw : RawProgram) where
       (λ P both. record { nameless = both.x; typed = both.is; named = both.after })
       (λ P is. record { x = is.nameless; is = is.typed; after = is.named })
       (λ b br. elim br [ first wrong ↦ fault_of (placed wrong) | later P typed nothing ↦ absurd nothing ])
-      (λ b fault. first (subst (λ (order : List Decl). OrderBreaks raw start order b) (sym fault.order) (at_place fault.next fault.after fault.typed fault.broken)))
+      (λ b fault. first (subst (λ (order : List Decl). OrderBreaks raw start order b) (sym fault.order)
+      (at_place fault.next fault.after fault.typed fault.broken)))
     where
       fault_of : {b : Broken} → Placed start raw.order b → IsFault raw b
       fault_of p = record { before = p.before; next = p.next; after = p.after; P = p.Q; order = p.order_is; typed = p.typed; broken = p.broken }

@@ -26,7 +26,9 @@ use Rattle.px_types.proofs.FitsExact.{decides_fits}
 
 -- the property of a number
 prop_at : ℕ → Prop
-prop_at n = cond (eqb n 0) Comm (cond (eqb n 1) Assoc (cond (eqb n 2) Idem (cond (eqb n 3) Sel (cond (eqb n 4) Refl (cond (eqb n 5) Irrefl (cond (eqb n 6) Sym (cond (eqb n 7) Antisym (cond (eqb n 8) Asym (cond (eqb n 9) Trans Conn)))))))))
+prop_at n = cond (eqb n 0) Comm (cond (eqb n 1) Assoc
+    (cond (eqb n 2) Idem (cond (eqb n 3) Sel
+    (cond (eqb n 4) Refl (cond (eqb n 5) Irrefl (cond (eqb n 6) Sym (cond (eqb n 7) Antisym (cond (eqb n 8) Asym (cond (eqb n 9) Trans Conn)))))))))
 
 prop_at_number : (p : Prop) → prop_at (prop_number p) ≡ p
 unfolding prop_at
@@ -82,7 +84,8 @@ module _ (Q : Prop → Type 0) where
   among_written : (raws : List RawProp) → AllHold raws → (p : Prop) → is_one_of (props_of raws) p ≡ true → Q p
   among_written [] all p e = absurd (false≢true e)
   among_written (raw ∷ raws) all p e = elim (or_of (prop_number raw.prop == prop_number p) _ e) [
-    | inl here ↦ subst Q (one_number raw.prop p ((Decides-eqb (prop_number raw.prop) (prop_number p)).0 here)) (All-head (λ (raw : RawProp). Q raw.prop) raw raws all)
+    | inl here ↦ subst Q (one_number raw.prop p ((Decides-eqb (prop_number raw.prop) (prop_number p)).0 here))
+        (All-head (λ (raw : RawProp). Q raw.prop) raw raws all)
     | inr there ↦ among_written raws (All-tail (λ (raw : RawProp). Q raw.prop) raw raws all) p there
   ]
 
@@ -99,7 +102,8 @@ module _ (Q : Prop → Type 0) where
   hold_written raws each = each_written raws (λ p e. each p (has_is (props_of raws) p ∙ e))
 
 module _ (P : Program) (funs : List FnType) where
-  exact_prop : (h : Head) (raw : RawProp) → Exact (prop_found P funs h raw) (λ _. Fits P funs h raw.prop) (λ b. (Fits P funs h raw.prop → ⊥) × (b ≡ breaks PropertyShape raw.at))
+  exact_prop : (h : Head) (raw : RawProp) →
+      Exact (prop_found P funs h raw) (λ _. Fits P funs h raw.prop) (λ b. (Fits P funs h raw.prop → ⊥) × (b ≡ breaks PropertyShape raw.at))
   unfolding prop_found
   exact_prop h raw = exact_needs _ PropertyShape raw.at (decides_fits P funs h raw.prop)
 
@@ -112,11 +116,17 @@ module _ (P : Program) (funs : List FnType) where
   exact_props h [] = record { says = All-nil (λ (raw : RawProp). Fits P funs h raw.prop); ok = λ x all. refl; err = λ b br. elim br [ ] }
   exact_props h (raw ∷ raws) = exact_as (exact_then (exact_prop h raw) (λ _ fit. exact_props h raws))
       (λ x both. All-cons (λ (raw : RawProp). Fits P funs h raw.prop) raw raws both.is both.after)
-      (λ x all. record { x = tt; is = All-head (λ (raw : RawProp). Fits P funs h raw.prop) raw raws all; after = All-tail (λ (raw : RawProp). Fits P funs h raw.prop) raw raws all })
+      (λ x all. record {
+        x = tt;
+        is = All-head (λ (raw : RawProp). Fits P funs h raw.prop) raw raws all;
+        after = All-tail (λ (raw : RawProp). Fits P funs h raw.prop) raw raws all;
+      })
       (λ b br. elim br [ first wrong ↦ BreaksProps.here wrong.0 wrong.1 | later _ fit rest ↦ BreaksProps.later fit rest ])
       (λ b br. props_from br)
     where
-      props_from : {b : Broken} → BreaksProps P funs h (raw ∷ raws) b → Either {S = Unit {0}} (λ _. Fits P funs h raw.prop) (λ b. (Fits P funs h raw.prop → ⊥) × (b ≡ breaks PropertyShape raw.at)) (λ _. BreaksProps P funs h raws) b
+      props_from : {b : Broken} → BreaksProps P funs h (raw ∷ raws) b →
+          Either {S = Unit {0}} (λ _. Fits P funs h raw.prop) (λ b. (Fits P funs h raw.prop → ⊥) × (b ≡ breaks PropertyShape raw.at))
+          (λ _. BreaksProps P funs h raws) b
       props_from (BreaksProps.here wrong e) = first (wrong, e)
       props_from (BreaksProps.later fit rest) = later tt fit rest
 
@@ -134,7 +144,8 @@ module _ (P : Program) (funs : List FnType) where
       (λ b br. elim br [ first wrong ↦ BreaksAssumed.here wrong | later _ fit others ↦ BreaksAssumed.later fit others ])
       (λ b br. assumed_break br)
     where
-      assumed_break : {b : Broken} → BreaksAssumed P funs i (F ∷ rest) b → Either {S = Unit {0}} (λ _. AllFits (FnVar i) F.props) (BreaksProps P funs (FnVar i) F.props) (λ _. BreaksAssumed P funs (i + 1) rest) b
+      assumed_break : {b : Broken} → BreaksAssumed P funs i (F ∷ rest) b →
+          Either {S = Unit {0}} (λ _. AllFits (FnVar i) F.props) (BreaksProps P funs (FnVar i) F.props) (λ _. BreaksAssumed P funs (i + 1) rest) b
       assumed_break (BreaksAssumed.here wrong) = first wrong
       assumed_break (BreaksAssumed.later fit others) = later tt fit others
 
@@ -157,6 +168,7 @@ module _ (P : Program) (funs : List FnType) where
   pub assumed_from : (k : ℕ) {raws : List RawFnType} {types : List FnType} → AreFnTys raws types → AssumedOf k types → AllAssumed k raws
   assumed_from k written.none each = tt
   assumed_from k (written.more {raw = raw} {F = G} is are) each = (
-    hold_written (λ (q : Prop). Fits P funs (FnVar k) q) raw.props (λ p has. each 0 k G p (omega arith) refl (subst (λ (s : _). HasProp s p) (sym is.props) has)),
+    hold_written (λ (q : Prop). Fits P funs (FnVar k) q) raw.props
+        (λ p has. each 0 k G p (omega arith) refl (subst (λ (s : _). HasProp s p) (sym is.props) has)),
     assumed_from (k + 1) are (λ i j F p at stands has. each (suc i) j F p (omega arith) stands has),
   )

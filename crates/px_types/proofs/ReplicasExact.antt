@@ -62,7 +62,8 @@ ground_rest (AreGround.more here rest) = rest
 mutual
   built_of : {P : Program} {layer : RawKind-F RawKind RawArm RawTerm} {t : Term} → IsTermLayer P layer t → IsGround layer → IsBuiltLayer (out-Term t)
   built_of (written.literal {w = w} e) ground = rw (e, term.outs-Lit w) IsBuiltLayer.literal
-  built_of (written.construction {d = d} {k = k} {types = types} {fields = fields} types_are are e) ground = rw (e, term.outs-Con d k types fields) (IsBuiltLayer.construction (all_built are (ground_fields ground)))
+  built_of (written.construction {d = d} {k = k} {types = types} {fields = fields} types_are are e) ground =
+      rw (e, term.outs-Con d k types fields) (IsBuiltLayer.construction (all_built are (ground_fields ground)))
   built_of (written.free e) ground = elim ground [ ]
   built_of (written.bound e) ground = elim ground [ ]
   built_of (written.call f funs args e) ground = elim ground [ ]
@@ -73,7 +74,8 @@ mutual
   all_built (written.more is are) ground = AreBuilt.more (built_of is (ground_first ground)) (all_built are (ground_rest ground))
 
 -- what is asked of the counts of what is called
-types_count : (o : Option Counts) (n m k : ℕ) → n ≡ k → IsSomeAnd o (λ (c : Counts). (c.types ≡ n) × (c.functions ≡ m)) → IsSomeAnd o (λ (c : Counts). c.types ≡ k)
+types_count : (o : Option Counts) (n m k : ℕ) → n ≡ k → IsSomeAnd o (λ (c : Counts). (c.types ≡ n) × (c.functions ≡ m)) →
+    IsSomeAnd o (λ (c : Counts). c.types ≡ k)
 types_count None n m k e h = h
 types_count (Some c) n m k e h = h.0 ∙ e
 
@@ -134,7 +136,8 @@ module _ (P : Program) (r : RawReplica) (some : HaveConstructors P) where
 
   decides_merge_counts : Decides (has_merge_counts P r) (HasMergeCounts P r)
   unfolding has_merge_counts
-  decides_merge_counts = decides_passes _ (λ (c : Counts). (c.types ≡ length r.merge.types) × (c.functions ≡ length r.funs)) (λ c. Decides-and _ _ (Decides-eqb c.types (length r.merge.types)) (Decides-eqb c.functions (length r.funs))) (counts_of env r.merge.head)
+  decides_merge_counts = decides_passes _ (λ (c : Counts). (c.types ≡ length r.merge.types) × (c.functions ≡ length r.funs))
+      (λ c. Decides-and _ _ (Decides-eqb c.types (length r.merge.types)) (Decides-eqb c.functions (length r.funs))) (counts_of env r.merge.head)
 
   -- The merge with this signature joins states of this type.
   record Joins (s : Signature) (state : Ty) : Type 0 where
@@ -144,7 +147,9 @@ module _ (P : Program) (r : RawReplica) (some : HaveConstructors P) where
 
   decides_joins : (s : Signature) (state : Ty) → Decides (is_joining P r.merge.head s state) (Joins s state)
   unfolding is_joining
-  decides_joins s state = Decides-like _ (λ h. record { params = h.0.0; result = h.0.1; known = h.1 }) (λ j. ((j.params, j.result), j.known)) (Decides-and _ _ (Decides-and _ _ (decides_same_all s.params (state ∷ state ∷ [])) (decides_same s.result state)) (decides_wanted env r.merge.head (set_of merge_props)))
+  decides_joins s state = Decides-like _ (λ h. record { params = h.0.0; result = h.0.1; known = h.1 }) (λ j. ((j.params, j.result), j.known))
+      (Decides-and _ _ (Decides-and _ _ (decides_same_all s.params (state ∷ state ∷ [])) (decides_same s.result state))
+      (decides_wanted env r.merge.head (set_of merge_props)))
 
   takes_types : (types : List Ty) → HasMergeCounts P r → AreRight P 0 r.merge.types types → TakesTypes env r.merge.head (length types)
   takes_types types counts right = types_count (counts_of env r.merge.head) (length r.merge.types) (length r.funs) (length types) (same_length right.are) counts
@@ -153,11 +158,15 @@ module _ (P : Program) (r : RawReplica) (some : HaveConstructors P) where
   abbrev merge_at : List Ty → Fun
   merge_at types = record { head = r.merge.head; types = types }
 
-  merge_function : (types : List Ty) (s : Signature) → HasMergeCounts P r → AreRight P 0 r.merge.types types → signature_of env r.merge.head types ≡ Some s → IsFunction P (functions_alone 0 []) (merge_at types) s.takes s.params s.result
+  merge_function : (types : List Ty) (s : Signature) → HasMergeCounts P r → AreRight P 0 r.merge.types types → signature_of env r.merge.head types ≡ Some s →
+      IsFunction P (functions_alone 0 []) (merge_at types) s.takes s.params s.result
   merge_function types s counts right stands = function_of env r.merge.head types s (takes_types types counts right) (are_types P 0 types right.written) stands
 
-  takes_length : (types : List Ty) (s : Signature) → HasMergeCounts P r → AreRight P 0 r.merge.types types → signature_of env r.merge.head types ≡ Some s → length r.funs ≡ length s.takes
-  takes_length types s counts right stands = sym (functions_count (counts_of env r.merge.head) (record { types = length types; functions = length s.takes; values = length s.params }) (length r.merge.types) (length r.funs) (function_counts env (merge_function types s counts right stands)) counts)
+  takes_length : (types : List Ty) (s : Signature) → HasMergeCounts P r → AreRight P 0 r.merge.types types → signature_of env r.merge.head types ≡ Some s →
+      length r.funs ≡ length s.takes
+  takes_length types s counts right stands =
+      sym (functions_count (counts_of env r.merge.head) (record { types = length types; functions = length s.takes; values = length s.params })
+      (length r.merge.types) (length r.funs) (function_counts env (merge_function types s counts right stands)) counts)
 
   exact_state : Exact (state_found P r) (IsRight P 0 r.state) (BreaksTy P 0 r.state)
   unfolding state_found
@@ -183,10 +192,16 @@ module _ (P : Program) (r : RawReplica) (some : HaveConstructors P) where
   data BreaksMade (b : Broken) : Type 0 where
     of_state : BreaksTy P 0 r.state b → BreaksMade b
     of_from : {T : Ty} → IsRight P 0 r.state T → BreaksParts env [] (r.from ∷ []) (T ∷ []) b → BreaksMade b
-    of_counts : {T : Ty} {t : Term} → IsRight P 0 r.state T → IsTyped env [] (out-RawKind r.from.kind) t T → (HasMergeCounts P r → ⊥) → b ≡ breaks Arity r.merge.at → BreaksMade b
-    of_types : {T : Ty} {t : Term} → IsRight P 0 r.state T → IsTyped env [] (out-RawKind r.from.kind) t T → HasMergeCounts P r → BreaksTys P 0 r.merge.types b → BreaksMade b
-    of_functions : {T : Ty} {t : Term} {types : List Ty} {s : Signature} → IsRight P 0 r.state T → IsTyped env [] (out-RawKind r.from.kind) t T → HasMergeCounts P r → AreRight P 0 r.merge.types types → signature_of env r.merge.head types ≡ Some s → BreaksArguments env r.funs s.takes b → BreaksMade b
-    of_joining : {T : Ty} {t : Term} {types : List Ty} {s : Signature} {funs : List Fun} → IsRight P 0 r.state T → IsTyped env [] (out-RawKind r.from.kind) t T → HasMergeCounts P r → AreRight P 0 r.merge.types types → signature_of env r.merge.head types ≡ Some s → AllTwo (IsRightFun env) r.funs s.takes funs → (Joins s T → ⊥) → b ≡ breaks NotJoin r.merge.at → BreaksMade b
+    of_counts : {T : Ty} {t : Term} → IsRight P 0 r.state T → IsTyped env [] (out-RawKind r.from.kind) t T → (HasMergeCounts P r → ⊥) →
+        b ≡ breaks Arity r.merge.at → BreaksMade b
+    of_types : {T : Ty} {t : Term} → IsRight P 0 r.state T → IsTyped env [] (out-RawKind r.from.kind) t T → HasMergeCounts P r → BreaksTys P 0 r.merge.types b →
+        BreaksMade b
+    of_functions : {T : Ty} {t : Term} {types : List Ty} {s : Signature} → IsRight P 0 r.state T → IsTyped env [] (out-RawKind r.from.kind) t T →
+        HasMergeCounts P r → AreRight P 0 r.merge.types types → signature_of env r.merge.head types ≡ Some s → BreaksArguments env r.funs s.takes b → BreaksMade
+        b
+    of_joining : {T : Ty} {t : Term} {types : List Ty} {s : Signature} {funs : List Fun} → IsRight P 0 r.state T →
+        IsTyped env [] (out-RawKind r.from.kind) t T → HasMergeCounts P r → AreRight P 0 r.merge.types types → signature_of env r.merge.head types ≡ Some
+        s → AllTwo (IsRightFun env) r.funs s.takes funs → (Joins s T → ⊥) → b ≡ breaks NotJoin r.merge.at → BreaksMade b
 
   exact_made : Exact (merge_found P r) IsMade BreaksMade
   unfolding merge_found
@@ -200,7 +215,8 @@ module _ (P : Program) (r : RawReplica) (some : HaveConstructors P) where
       exact_then (exact_needs _ NotJoin r.merge.at (decides_joins s state)) (λ _ joins.
       exact_ok (with_replica P (record { state = state; from = from; merge = merge_at types; funs = funs; seen = length P.declared })))))))))
       )
-      (λ Q both. let second = both.after in let third = second.after in let fourth = third.after in let fifth = fourth.after in let sixth = fifth.after in record {
+      (λ Q both. let second = both.after in let third = second.after in let fourth = third.after in let fifth = fourth.after in let sixth =
+      fifth.after in record {
         state = both.x;
         state_is = both.is;
         from = second.x;
@@ -263,17 +279,21 @@ module _ (P : Program) (r : RawReplica) (some : HaveConstructors P) where
         | BreaksMade.of_from {T = T} state_is wrong ↦ later T state_is (first wrong)
         | BreaksMade.of_counts {T = T} {t = t} state_is from_is wrong e ↦ later T state_is (later t from_is (first (wrong, e)))
         | BreaksMade.of_types {T = T} {t = t} state_is from_is counts wrong ↦ later T state_is (later t from_is (later tt counts (first wrong)))
-        | BreaksMade.of_functions {T = T} {t = t} {types = types} {s = s} state_is from_is counts right stands wrong ↦ later T state_is (later t from_is (later tt counts (later types right (later s stands (first (arguments_broken env tt wrong))))))
-        | BreaksMade.of_joining {T = T} {t = t} {types = types} {s = s} {funs = funs} state_is from_is counts right stands are wrong e ↦ later T state_is (later t from_is (later tt counts (later types right (later s stands (later funs are (first (wrong, e)))))))
+        | BreaksMade.of_functions {T = T} {t = t} {types = types} {s = s} state_is from_is counts right stands wrong ↦ later T state_is
+            (later t from_is (later tt counts (later types right (later s stands (first (arguments_broken env tt wrong))))))
+        | BreaksMade.of_joining {T = T} {t = t} {types = types} {s = s} {funs = funs} state_is from_is counts right stands are wrong e ↦ later T state_is
+            (later t from_is (later tt counts (later types right (later s stands (later funs are (first (wrong, e)))))))
       ])
 
   -- the merge joins, in the words of the rules
-  join_function : (f : Fun) (s : Signature) (state : Ty) → s.params ≡ state ∷ state ∷ [] → s.result ≡ state → IsFunction P (functions_alone 0 []) f s.takes s.params s.result → IsFunction P (functions_alone 0 []) f s.takes (state ∷ state ∷ []) state
+  join_function : (f : Fun) (s : Signature) (state : Ty) → s.params ≡ state ∷ state ∷ [] → s.result ≡ state →
+      IsFunction P (functions_alone 0 []) f s.takes s.params s.result → IsFunction P (functions_alone 0 []) f s.takes (state ∷ state ∷ []) state
   join_function f s state params result function =
       subst (λ (T : Ty). IsFunction P (functions_alone 0 []) f s.takes (state ∷ state ∷ []) T) result
       (subst (λ (ps : List Ty). IsFunction P (functions_alone 0 []) f s.takes ps s.result) params function)
 
-  joining_of : (types : List Ty) (s : Signature) (state : Ty) → IsFunction P (functions_alone 0 []) (merge_at types) s.takes s.params s.result → Joins s state → IsJoining P (merge_at types) state
+  joining_of : (types : List Ty) (s : Signature) (state : Ty) → IsFunction P (functions_alone 0 []) (merge_at types) s.takes s.params s.result → Joins s state →
+      IsJoining P (merge_at types) state
   joining_of types s state function joins = record {
     takes = s.takes;
     function = join_function (merge_at types) s state joins.params joins.result function;
@@ -282,20 +302,31 @@ module _ (P : Program) (r : RawReplica) (some : HaveConstructors P) where
     idem = joins.known Idem refl;
   }
 
-  joins_of : (merge : Fun) (s : Signature) (state : Ty) → merge.head ≡ r.merge.head → signature_of env r.merge.head merge.types ≡ Some s → IsJoining P merge state → Joins s state
+  joins_of : (merge : Fun) (s : Signature) (state : Ty) → merge.head ≡ r.merge.head → signature_of env r.merge.head merge.types ≡ Some s →
+      IsJoining P merge state → Joins s state
   joins_of merge s state e stands joining =
-      let found : signature_of env r.merge.head merge.types ≡ Some (record { takes = joining.takes; params = state ∷ state ∷ []; result = state }) = ap (λ (h : Head). signature_of env h merge.types) (sym e) ∙ function_is env joining.function in
+      let found : signature_of env r.merge.head merge.types ≡ Some (record { takes = joining.takes; params = state ∷ state ∷ []; result = state }) =
+      ap (λ (h : Head). signature_of env h merge.types) (sym e) ∙ function_is env joining.function in
       let one : s ≡ record { takes = joining.takes; params = state ∷ state ∷ []; result = state } = one_some (sym stands ∙ found) in
       record {
         params = ap (λ (x : Signature). x.params) one;
         result = ap (λ (x : Signature). x.result) one;
-        known = λ p has. subst (λ (h : Head). IsKnown P (behind (length P.declared)) (functions_alone 0 []) h p) e (of_three (λ (q : Prop). IsKnown P (behind (length P.declared)) (functions_alone 0 []) merge.head q) joining.comm joining.assoc joining.idem p has);
+        known = λ p has. subst (λ (h : Head). IsKnown P (behind (length P.declared)) (functions_alone 0 []) h p) e
+            (of_three (λ (q : Prop). IsKnown P (behind (length P.declared)) (functions_alone 0 []) merge.head q) joining.comm joining.assoc joining.idem p has);
       }
 
-  is_merge : (types : List Ty) (s : Signature) → HasMergeCounts P r → AreRight P 0 r.merge.types types → signature_of env r.merge.head types ≡ Some s → IsMerge P r (merge_at types) s.takes
-  is_merge types s counts right stands = record { params = s.params; result = s.result; is = record { head = refl; types = right.are }; right = right; function = merge_function types s counts right stands }
+  is_merge : (types : List Ty) (s : Signature) → HasMergeCounts P r → AreRight P 0 r.merge.types types → signature_of env r.merge.head types ≡ Some s →
+      IsMerge P r (merge_at types) s.takes
+  is_merge types s counts right stands = record {
+    params = s.params;
+    result = s.result;
+    is = record { head = refl; types = right.are };
+    right = right;
+    function = merge_function types s counts right stands;
+  }
 
-  merge_stands : {merge : Fun} {takes : List FnType} (m : IsMerge P r merge takes) → signature_of env r.merge.head merge.types ≡ Some (record { takes = takes; params = m.params; result = m.result })
+  merge_stands : {merge : Fun} {takes : List FnType} (m : IsMerge P r merge takes) →
+      signature_of env r.merge.head merge.types ≡ Some (record { takes = takes; params = m.params; result = m.result })
   merge_stands {merge} m = ap (λ (h : Head). signature_of env h merge.types) (sym m.is.head) ∙ function_is env m.function
 
   replica_breaks : {b : Broken} → BreaksMade b → BreaksReplica P r b
@@ -303,21 +334,27 @@ module _ (P : Program) (r : RawReplica) (some : HaveConstructors P) where
   replica_breaks (BreaksMade.of_from state_is wrong) = BreaksReplica.from (one_right state_is) wrong
   replica_breaks (BreaksMade.of_counts state_is from_is wrong e) = BreaksReplica.counts (one_right state_is) (one_typed from_is) wrong e
   replica_breaks (BreaksMade.of_types state_is from_is counts wrong) = BreaksReplica.types (one_right state_is) (one_typed from_is) counts wrong
-  replica_breaks (BreaksMade.of_functions {types = types} {s = s} state_is from_is counts right stands wrong) = BreaksReplica.functions (one_right state_is) (one_typed from_is) counts (is_merge types s counts right stands) wrong
+  replica_breaks (BreaksMade.of_functions {types = types} {s = s} state_is from_is counts right stands wrong) =
+      BreaksReplica.functions (one_right state_is) (one_typed from_is) counts (is_merge types s counts right stands) wrong
   replica_breaks (BreaksMade.of_joining {T = T} {types = types} {s = s} state_is from_is counts right stands are wrong e) =
-      BreaksReplica.not_join (one_right state_is) (one_typed from_is) counts (is_merge types s counts right stands) (are_right_arguments env tt are) (λ joining. wrong (joins_of (merge_at types) s T refl stands joining)) e
+      BreaksReplica.not_join (one_right state_is) (one_typed from_is) counts (is_merge types s counts right stands) (are_right_arguments env tt are)
+      (λ joining. wrong (joins_of (merge_at types) s T refl stands joining)) e
 
   breaks_replica : {b : Broken} → BreaksReplica P r b → BreaksMade b
   breaks_replica (BreaksReplica.state wrong) = BreaksMade.of_state (only_ty wrong)
   breaks_replica (BreaksReplica.from right wrong) = BreaksMade.of_from (right_one right) wrong
   breaks_replica (BreaksReplica.counts right typed wrong e) = BreaksMade.of_counts (right_one right) (typed_one typed).is wrong e
   breaks_replica (BreaksReplica.types right typed counts wrong) = BreaksMade.of_types (right_one right) (typed_one typed).is counts wrong
-  breaks_replica (BreaksReplica.functions {takes = takes} right typed counts m wrong) = BreaksMade.of_functions {s = record { takes = takes; params = m.params; result = m.result }} (right_one right) (typed_one typed).is counts m.right (merge_stands m) wrong
+  breaks_replica (BreaksReplica.functions {takes = takes} right typed counts m wrong) = BreaksMade.of_functions
+      {s = record { takes = takes; params = m.params; result = m.result }} (right_one right) (typed_one typed).is counts m.right (merge_stands m) wrong
   breaks_replica (BreaksReplica.not_join {T = T} {merge = merge} {takes = takes} right typed counts m are wrong e) =
       let found = found_arguments env tt are in
       let at : merge ≡ merge_at merge.types = λ i. record { head = m.is.head i; types = merge.types } in
-      BreaksMade.of_joining {s = record { takes = takes; params = m.params; result = m.result }} (right_one right) (typed_one typed).is counts m.right (merge_stands m) found.are
-      (λ joins. wrong (subst (λ (f : Fun). IsJoining P f T) (sym at) (joining_of merge.types (record { takes = takes; params = m.params; result = m.result }) T (subst (λ (f : Fun). IsFunction P (functions_alone 0 []) f takes m.params m.result) at m.function) joins))) e
+      BreaksMade.of_joining {s = record { takes = takes; params = m.params; result = m.result }} (right_one right) (typed_one typed).is counts m.right
+      (merge_stands m) found.are
+      (λ joins. wrong (subst (λ (f : Fun). IsJoining P f T) (sym at)
+      (joining_of merge.types (record { takes = takes; params = m.params; result = m.result }) T
+      (subst (λ (f : Fun). IsFunction P (functions_alone 0 []) f takes m.params m.result) at m.function) joins))) e
 
   module _ (ground : IsGround (out-RawKind r.from.kind)) (callable : (types : List Ty) → MayCall P (behind (length P.declared)) r.merge.head types) where
     step_of : {Q : Program} → IsMade Q → ReplicaStep P r Q
@@ -363,7 +400,14 @@ module _ (P : Program) (r : RawReplica) (some : HaveConstructors P) where
     fitted : {Q : Program} → ReplicaStep P r Q → Fitted Q
     fitted {Q} step =
         let R = step.R in
-        let e : R ≡ record { state = R.state; from = R.from; merge = merge_at R.merge.types; funs = R.funs; seen = length P.declared } = λ i. record { state = R.state; from = R.from; merge = record { head = step.is.merge.head i; types = R.merge.types }; funs = R.funs; seen = step.is.stands i } in
+        let e : R ≡ record { state = R.state; from = R.from; merge = merge_at R.merge.types; funs = R.funs; seen = length P.declared } =
+        λ i. record {
+          state = R.state;
+          from = R.from;
+          merge = record { head = step.is.merge.head i; types = R.merge.types };
+          funs = R.funs;
+          seen = step.is.stands i;
+        } in
         record {
           state = R.state;
           from = R.from;
@@ -384,14 +428,19 @@ module _ (P : Program) (r : RawReplica) (some : HaveConstructors P) where
           state_is = record { is = f.is.state; written = f.typed.state };
           from = f.from;
           from_is = record { is = f.is.from; has = f.typed.from };
-          counts = subst (λ (o : Option Counts). IsSomeAnd o (λ (c : Counts). (c.types ≡ length r.merge.types) × (c.functions ≡ length r.funs))) (sym (function_counts env join.function)) (sym (same_length f.is.merge.types), count);
+          counts = subst (λ (o : Option Counts). IsSomeAnd o (λ (c : Counts). (c.types ≡ length r.merge.types) × (c.functions ≡ length r.funs)))
+              (sym (function_counts env join.function)) (sym (same_length f.is.merge.types), count);
           types = f.types;
           right = record { are = f.is.merge.types; written = written_of env tt f.types (function_types env join.function) f.typed.types };
           s = record { takes = join.takes; params = f.state ∷ f.state ∷ []; result = f.state };
           stands = function_is env join.function;
           funs = f.funs;
           are = all_right_funs env tt f.is.funs join.arguments;
-          joins = record { params = refl; result = refl; known = of_three (λ (q : Prop). IsKnown P (behind (length P.declared)) (functions_alone 0 []) r.merge.head q) join.comm join.assoc join.idem };
+          joins = record {
+            params = refl;
+            result = refl;
+            known = of_three (λ (q : Prop). IsKnown P (behind (length P.declared)) (functions_alone 0 []) r.merge.head q) join.comm join.assoc join.idem;
+          };
           same = f.same;
         }
 
