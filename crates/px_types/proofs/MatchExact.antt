@@ -1,12 +1,12 @@
 -- Matches are found exactly as the rules say.
-use Rattle.std.proofs.Common.{◌≡◌, ◌⊎◌, inl, inr, ℕ, zero, suc, ◌+◌, ◌<◌, ◌≤◌, Bool, true, false, List, [], ◌∷◌, ◌++◌, length, map, reverse, Option, Some, None, Result, Ok, Err, refl, sym, ◌∙◌, ap, subst, Decides, arith}
-use Rattle.std.specs.Prelude.{slice_get, slice_set, replicate, Contains}
+use Rattle.std.proofs.Common.{◌≡◌, ◌⊎◌, inl, inr, ℕ, zero, suc, ◌+◌, ◌<◌, List, [], ◌∷◌, ◌++◌, length, map, reverse, Option, Some, None, refl, sym, ◌∙◌, ap, subst, arith}
+use Rattle.std.specs.Prelude.{slice_get, slice_set, Contains}
 use Rattle.std.specs.List.{All}
-use Rattle.std.specs.Option.{IsSomeAnd, option_map, option_and_then}
+use Rattle.std.specs.Option.{option_map}
 use Rattle.std.proofs.lemmas.List.{length-map}
 use Rattle.px_base.specs.Distinct.{AreDistinct}
 use Rattle.px_base.specs.Distinct as distinct
-use Rattle.px_base.specs.declared.raw.RawKind.{RawKind, out-RawKind}
+use Rattle.px_base.specs.declared.raw.RawKind.{out-RawKind}
 use Rattle.px_base.specs.declared.raw.RawKind.TheOpen.{RawKind-F}
 use Rattle.px_base.specs.declared.raw.RawTerm.{RawTerm}
 use Rattle.px_base.specs.declared.raw.RawArm.{RawArm}
@@ -19,7 +19,6 @@ use Rattle.px_terms.specs.declared.term.Term.TheOpen.{Term-F}
 use Rattle.px_terms.specs.declared.program.ConDef.{ConDef}
 use Rattle.px_terms.specs.declared.program.DataDef.{DataDef}
 use Rattle.px_terms.specs.declared.program.Program.{Program}
-use Rattle.px_terms.specs.Types.{tys_instance}
 use Rattle.px_terms.specs.Programs.{constructor_at}
 use Rattle.px_terms.specs.Typing.{IsMet, HasTypeLayer, HaveTypesInArms}
 use Rattle.px_terms.specs.Typing as typing
@@ -30,9 +29,9 @@ use Rattle.px_types.specs.Written.{cons_of, HasPattern, IsTermLayer, AreArms}
 use Rattle.px_types.specs.Written as written
 use Rattle.px_types.specs.Faults.{Broken, breaks, Env, IsTyped, IsDatatype, Shown, Agrees, IsPattern, Breaks, BreaksArms}
 use Rattle.px_types.specs.Faults as faults
-use Rattle.px_types.specs.Outcomes.{onward, needs, there, along}
+use Rattle.px_types.specs.Outcomes.{onward, there, along}
 use Rattle.px_types.specs.Laws.{IsDeclaring}
-use Rattle.px_types.specs.Outcome.{ArmPart, part_of, term_found, Chosen, chosen_of, arm_found, all_filled, no_arms, match_found}
+use Rattle.px_types.specs.Outcome.{part_of, term_found, Chosen, chosen_of, arm_found, all_filled, no_arms, match_found}
 use Rattle.px_types.proofs.Exact.{Exact, Both, Either, first, later, exact_as, exact_at, exact_ok, exact_there, exact_then, Every, Along, AlongBreaks, exact_along}
 use Rattle.px_types.proofs.Exact as exact
 use Rattle.px_types.proofs.TermShapes.{arm_part, part_at}
@@ -138,9 +137,9 @@ module _ (E : Env) (bound : List Ty) (on : Chosen) where
       typed = record { c = f.c; stands = ap (slice_get on.datatype.cons) here.0 ∙ con_stands declared arm f.c f.pattern f.datatype; met = f.met; has = rw (one_some here.1) f.typed.has };
     }
     | inr there ↦
-      let old = before k t there.1 in
-      let agree : f.T ≡ old.T = rw old.same at f.agree in
-      record { T = f.T; same = ap (λ (v : Slots). v.ty) f.same; typed = rw agree old.typed }
+        let old = before k t there.1 in
+        let agree : f.T ≡ old.T = rw old.same at f.agree in
+        record { T = f.T; same = ap (λ (v : Slots). v.ty) f.same; typed = rw agree old.typed }
   ]
 
   arms_typed : slice_get E.program.datatypes on.number ≡ Some on.datatype → {s u : Slots} {arms : List RawArm} → ArmsFound s arms u → ((k : ℕ) (t : Term) → slice_get s.bodies k ≡ Some (Some t) → SlotTyped s k t) → (k : ℕ) (t : Term) → slice_get u.bodies k ≡ Some (Some t) → SlotTyped u k t
@@ -485,10 +484,10 @@ module _ (E : Env) (open_ : IsDeclaring E) (bound : List Ty) (at : ℕ) (scrutin
       exact_then (exact_there u.ty ArmMissing at) (λ T ty.
       exact_ok (record { term = term.Match found.term on.number on.types bodies; ty = T })))))))
       (λ found both.
-        let rest = both.after in
-        let chosen = chosen_some E.program both.x.ty rest.x rest.is in
-        let last = rest.after.after in
-        rw last.after.after (match_typed rest.x chosen.stands rest.after.x rest.after.is last.x last.is both.x.term both.x.ty last.after.x both.is chosen.same last.after.is))
+      let rest = both.after in
+      let chosen = chosen_some E.program both.x.ty rest.x rest.is in
+      let last = rest.after.after in
+      rw last.after.after (match_typed rest.x chosen.stands rest.after.x rest.after.is last.x last.is both.x.term both.x.ty last.after.x both.is chosen.same last.after.is))
       (λ found typed. let taken = match_taken found.term found.ty typed in record {
         x = record { term = taken.scrutinee_term; ty = taken.U };
         is = taken.typed;
@@ -507,15 +506,15 @@ module _ (E : Env) (open_ : IsDeclaring E) (bound : List Ty) (at : ℕ) (scrutin
         | later found typed h2 ↦ elim h2 [
           | first barred ↦ faults.no_datatype typed (not_datatype E.program found.ty barred.0) (barred.1 ∙ ap (breaks Mismatch) (part_at E scrutinee))
           | later on is h3 ↦
-            let chosen = chosen_some E.program found.ty on is in
-            let typed_as : IsTyped E bound (out-RawKind scrutinee.kind) found.term (type.Con on.number on.types) = of_datatype on found.term found.ty chosen typed in
-            elim h3 [
-              | first br ↦ faults.among_arms typed_as chosen.stands (breaks_to E bound on at chosen.stands br (record { cons = []; T = None }) (shows_start E bound on at chosen.stands))
-              | later u fs h4 ↦ elim h4 [
-                | first lacks ↦ faults.among_arms typed_as chosen.stands (missing_to E bound on at chosen.stands fs (record { cons = []; T = None }) (shows_start E bound on at chosen.stands) lacks.0 lacks.1)
-                | later bodies full h5 ↦ elim h5 [ first nothing ↦ absurd (ty_there on chosen.stands u fs bodies full nothing.0) | later T ty nothing ↦ absurd nothing ]
+              let chosen = chosen_some E.program found.ty on is in
+              let typed_as : IsTyped E bound (out-RawKind scrutinee.kind) found.term (type.Con on.number on.types) = of_datatype on found.term found.ty chosen typed in
+              elim h3 [
+                | first br ↦ faults.among_arms typed_as chosen.stands (breaks_to E bound on at chosen.stands br (record { cons = []; T = None }) (shows_start E bound on at chosen.stands))
+                | later u fs h4 ↦ elim h4 [
+                  | first lacks ↦ faults.among_arms typed_as chosen.stands (missing_to E bound on at chosen.stands fs (record { cons = []; T = None }) (shows_start E bound on at chosen.stands) lacks.0 lacks.1)
+                  | later bodies full h5 ↦ elim h5 [ first nothing ↦ absurd (ty_there on chosen.stands u fs bodies full nothing.0) | later T ty nothing ↦ absurd nothing ]
+                ]
               ]
-            ]
         ]
       ])
       (λ b h. elim h [
@@ -524,9 +523,9 @@ module _ (E : Env) (open_ : IsDeclaring E) (bound : List Ty) (at : ℕ) (scrutin
         | faults.in_scrutinee br ↦ first br
         | faults.no_datatype {t = t} {U = U} typed barred e ↦ later (record { term = t; ty = U }) typed (first (datatype_not E.program U barred, e ∙ ap (breaks Mismatch) (sym (part_at E scrutinee))))
         | faults.among_arms {d = d} {types = types} {t = t} {D = D} typed stands br ↦
-          let on : Chosen = record { number = d; types = types; datatype = D } in
-          later (record { term = t; ty = type.Con d types }) typed (later on (chosen_made E.program (type.Con d types) on (record { same = refl; stands = stands })) (elim (breaks_from E bound on at stands br (no_arms D) (shows_start E bound on at stands)) [
-            | among x ↦ first x
-            | lacking_one u fs e is ↦ later u fs (first (e, is))
-          ]))
+            let on : Chosen = record { number = d; types = types; datatype = D } in
+            later (record { term = t; ty = type.Con d types }) typed (later on (chosen_made E.program (type.Con d types) on (record { same = refl; stands = stands })) (elim (breaks_from E bound on at stands br (no_arms D) (shows_start E bound on at stands)) [
+              | among x ↦ first x
+              | lacking_one u fs e is ↦ later u fs (first (e, is))
+            ]))
       ])
