@@ -22,7 +22,8 @@ use Rattle.px_terms.specs.declared.sequent.Context.{Context}
 use Rattle.px_terms.specs.Types.{ty_instance, tys_instance, fn_type_instance, own_types}
 use Rattle.px_terms.specs.Programs.{constructor_at}
 use Rattle.px_terms.specs.Implied.{Closure, known, sel_gives_idem, conn_gives_refl, asym_gives_irrefl, asym_gives_antisym, irrefl_and_trans_give_asym}
-use Rattle.px_terms.specs.Typing.{IsTypeLayer, AreTypes, Place, anywhere, in_body, behind, StandsBefore, IsFunction, AreOwnTypes, MayCall, MayPass, IsEarlier, IsDeclaredBefore, IsSaid, IsKnown, IsArgument, AreArguments}
+use Rattle.px_terms.specs.Typing.{IsTypeLayer, AreTypes, Place, anywhere, in_body, behind, StandsBefore, IsFunction, AreOwnTypes, MayCall, MayPass}
+use Rattle.px_terms.specs.Typing.{IsEarlier, IsDeclaredBefore, IsSaid, IsKnown, IsArgument, AreArguments}
 use Rattle.px_terms.specs.Typing as typing
 use Rattle.px_terms.specs.TypedPrograms.{IsWritten, AreWritten, IsWrittenFnType, IsTypedCon, IsTypedData}
 use Rattle.px_types.specs.Faults.{AreRight}
@@ -88,7 +89,8 @@ closure_weaker Less More weaker (sel_gives_idem k) = sel_gives_idem (closure_wea
 closure_weaker Less More weaker (conn_gives_refl k) = conn_gives_refl (closure_weaker Less More weaker k)
 closure_weaker Less More weaker (asym_gives_irrefl k) = asym_gives_irrefl (closure_weaker Less More weaker k)
 closure_weaker Less More weaker (asym_gives_antisym k) = asym_gives_antisym (closure_weaker Less More weaker k)
-closure_weaker Less More weaker (irrefl_and_trans_give_asym k l) = irrefl_and_trans_give_asym (closure_weaker Less More weaker k) (closure_weaker Less More weaker l)
+closure_weaker Less More weaker (irrefl_and_trans_give_asym k l) =
+    irrefl_and_trans_give_asym (closure_weaker Less More weaker k) (closure_weaker Less More weaker l)
 
 -- Functions, and the properties that are known of them.
 module _ {P Q : Program} (agree : Agrees P Q) where
@@ -100,7 +102,8 @@ module _ {P Q : Program} (agree : Agrees P Q) where
   definition_there n D e = there_of (slice_get Q.defs n) (SameSignature D) (agree.defs n D e)
 
   -- what a signature tells of a definition
-  definition_agrees : (n : ℕ) (Here Hence : definition.Def → Type 0) → ((D E : definition.Def) → SameSignature D E → Here D → Hence E) → IsSomeAnd (slice_get P.defs n) Here → IsSomeAnd (slice_get Q.defs n) Hence
+  definition_agrees : (n : ℕ) (Here Hence : definition.Def → Type 0) → ((D E : definition.Def) → SameSignature D E → Here D → Hence E) →
+      IsSomeAnd (slice_get P.defs n) Here → IsSomeAnd (slice_get Q.defs n) Hence
   definition_agrees n Here Hence carry h =
       let here = there_of (slice_get P.defs n) Here h in
       let hence = definition_there n here.item here.is in
@@ -109,27 +112,31 @@ module _ {P Q : Program} (agree : Agrees P Q) where
   pub constructor_agrees : (d k : ℕ) (c : ConDef) → constructor_at P d k ≡ Some c → constructor_at Q d k ≡ Some c
   constructor_agrees d k c e = go (slice_get P.datatypes d) refl e
     where
-      go : (o : Option DataDef) → slice_get P.datatypes d ≡ o → option_and_then (λ (D : DataDef). slice_get D.cons k) o ≡ Some c → option_and_then (λ (D : DataDef). slice_get D.cons k) (slice_get Q.datatypes d) ≡ Some c
+      go : (o : Option DataDef) → slice_get P.datatypes d ≡ o → option_and_then (λ (D : DataDef). slice_get D.cons k) o ≡ Some c →
+          option_and_then (λ (D : DataDef). slice_get D.cons k) (slice_get Q.datatypes d) ≡ Some c
       go None is e = absurd (no_item c e)
       go (Some D) is e = ap (option_and_then (λ (D : DataDef). slice_get D.cons k)) (agree.datatypes d D is) ∙ e
 
-  pub function_agrees : {context : Context} {f : Fun} {takes : List FnType} {params : List Ty} {T : Ty} → IsFunction P context f takes params T → IsFunction Q context f takes params T
+  pub function_agrees : {context : Context} {f : Fun} {takes : List FnType} {params : List Ty} {T : Ty} → IsFunction P context f takes params T →
+      IsFunction Q context f takes params T
   function_agrees (typing.of_definition {n = n} {types = types} {D = D} stands count are takes params result) =
       let there = definition_there n D stands in
       let same : SameSignature D there.item = there.holds in
       typing.of_definition there.is (count ∙ sym same.tparams) (types_agree on_types are)
-          (takes ∙ ap (λ (funs : List FnType). map (fn_type_instance types) funs) (sym same.funs))
-          (params ∙ ap (tys_instance types) (sym same.params))
-          (result ∙ ap (ty_instance types) (sym same.result))
+      (takes ∙ ap (λ (funs : List FnType). map (fn_type_instance types) funs) (sym same.funs))
+      (params ∙ ap (tys_instance types) (sym same.params))
+      (result ∙ ap (ty_instance types) (sym same.result))
   function_agrees (typing.at_most result) = typing.at_most result
   function_agrees (typing.equal result) = typing.equal result
   function_agrees (typing.of_variable stands params result) = typing.of_variable stands params result
 
   pub stands_before_agrees : (n count : ℕ) → StandsBefore P n count → StandsBefore Q n count
-  stands_before_agrees n count h = definition_agrees n (λ (D : definition.Def). D.seen ≤ count) (λ (E : definition.Def). E.seen ≤ count) (λ D E same before. subst (λ (seen : ℕ). seen ≤ count) (sym same.seen) before) h
+  stands_before_agrees n count h = definition_agrees n (λ (D : definition.Def). D.seen ≤ count) (λ (E : definition.Def). E.seen ≤ count)
+      (λ D E same before. subst (λ (seen : ℕ). seen ≤ count) (sym same.seen) before) h
 
-  own_types_agree : (n : ℕ) (types : List Ty) → AreOwnTypes P n types → AreOwnTypes Q n types
-  own_types_agree n types h = definition_agrees n (λ (D : definition.Def). types ≡ own_types D.tparams) (λ (E : definition.Def). types ≡ own_types E.tparams) (λ D E same own. own ∙ ap own_types (sym same.tparams)) h
+  pub own_types_agree : (n : ℕ) (types : List Ty) → AreOwnTypes P n types → AreOwnTypes Q n types
+  own_types_agree n types h = definition_agrees n (λ (D : definition.Def). types ≡ own_types D.tparams)
+      (λ (E : definition.Def). types ≡ own_types E.tparams) (λ D E same own. own ∙ ap own_types (sym same.tparams)) h
 
   pub may_call_agrees : (place : Place) (h : Head) (types : List Ty) → MayCall P place h types → MayCall Q place h types
   may_call_agrees anywhere (Def m) types may = tt
@@ -162,11 +169,16 @@ module _ {P Q : Program} (agree : Agrees P Q) where
 
   pub earlier_agrees : (place : Place) (i : ℕ) → IsEarlier P place i → IsEarlier Q place i
   earlier_agrees anywhere i earlier = tt
-  earlier_agrees (in_body n) i earlier = definition_agrees n (λ (D : definition.Def). i < D.seen) (λ (E : definition.Def). i < E.seen) (λ D E same before. subst (λ (seen : ℕ). i < seen) (sym same.seen) before) earlier
+  earlier_agrees (in_body n) i earlier = definition_agrees n (λ (D : definition.Def). i < D.seen) (λ (E : definition.Def). i < E.seen)
+      (λ D E same before. subst (λ (seen : ℕ). i < seen) (sym same.seen) before) earlier
   earlier_agrees (behind count) i earlier = earlier
 
   pub declared_agrees : (place : Place) (n : ℕ) (p : Prop) → IsDeclaredBefore P place n p → IsDeclaredBefore Q place n p
-  declared_agrees place n p d = record { number = d.number; earlier = earlier_agrees place d.number d.earlier; stands = agree.declared d.number (declared.Property n p) d.stands }
+  declared_agrees place n p d = record {
+    number = d.number;
+    earlier = earlier_agrees place d.number d.earlier;
+    stands = agree.declared d.number (declared.Property n p) d.stands;
+  }
 
   pub said_agrees : (place : Place) (context : Context) (h : Head) (p : Prop) → IsSaid P place context h p → IsSaid Q place context h p
   said_agrees place context (Def n) p said = declared_agrees place n p said
@@ -177,7 +189,8 @@ module _ {P Q : Program} (agree : Agrees P Q) where
   pub known_agrees : (place : Place) (context : Context) (h : Head) (p : Prop) → IsKnown P place context h p → IsKnown Q place context h p
   known_agrees place context h p k = closure_weaker (IsSaid P place context h) (IsSaid Q place context h) (said_agrees place context h) k
 
-  pub argument_agrees : {place : Place} {context : Context} {f : Fun} {wanted : FnType} → IsArgument P place context f wanted → IsArgument Q place context f wanted
+  pub argument_agrees : {place : Place} {context : Context} {f : Fun} {wanted : FnType} → IsArgument P place context f wanted →
+      IsArgument Q place context f wanted
   argument_agrees {place} {context} {f} {wanted} a = record {
     function = function_agrees a.function;
     may_pass = may_pass_agrees place f.head a.may_pass;
@@ -187,6 +200,7 @@ module _ {P Q : Program} (agree : Agrees P Q) where
     properties = λ p has. known_agrees place context f.head p (a.properties p has);
   }
 
-  pub arguments_agree : {place : Place} {context : Context} {fs : List Fun} {takes : List FnType} → AreArguments P place context fs takes → AreArguments Q place context fs takes
+  pub arguments_agree : {place : Place} {context : Context} {fs : List Fun} {takes : List FnType} → AreArguments P place context fs takes →
+      AreArguments Q place context fs takes
   arguments_agree typing.none = typing.none
   arguments_agree (typing.more is are) = typing.more (argument_agrees is) (arguments_agree are)

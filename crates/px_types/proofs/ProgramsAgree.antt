@@ -23,10 +23,12 @@ use Rattle.px_terms.specs.Types.{own_types, own_functions}
 use Rattle.px_terms.specs.Typing.{Place, behind}
 use Rattle.px_terms.specs.Clauses.{Subject, HasResult, clause_for, functions_alone, IsSubject, IsClauseOf}
 use Rattle.px_terms.specs.Clauses as clauses
-use Rattle.px_terms.specs.TypedPrograms.{Fits, AreWrittenFnTypes, HasSignature, IsTypedDef, IsTypedProperty, AreSidesTyped, lemma_context, IsTypedLemma, IsJoin, IsTypedReplica}
+use Rattle.px_terms.specs.TypedPrograms.{Fits, AreWrittenFnTypes, HasSignature, IsTypedDef, IsTypedProperty, AreSidesTyped, lemma_context}
+use Rattle.px_terms.specs.TypedPrograms.{IsTypedLemma, IsJoin, IsTypedReplica}
 use Rattle.px_types.specs.Declarations.{with_datatype, with_definition, with_obligations, with_lemma, with_replica}
 use Rattle.px_types.proofs.Appending.{some_and, get_left, get_last, IsLast, last_cases}
-use Rattle.px_types.proofs.Agreement.{AgreeOnTypes, SameSignature, Agrees, written_agrees, all_written_agree, all_fn_types_agree, on_types, definition_there, stands_before_agrees, function_agrees, may_call_agrees, known_agrees, arguments_agree}
+use Rattle.px_types.proofs.Agreement.{AgreeOnTypes, SameSignature, Agrees, written_agrees, all_written_agree, all_fn_types_agree, on_types}
+use Rattle.px_types.proofs.Agreement.{definition_there, stands_before_agrees, function_agrees, may_call_agrees, known_agrees, arguments_agree}
 use Rattle.px_types.proofs.TermsAgree.{term_agrees}
 
 -- Clauses.
@@ -48,7 +50,8 @@ module _ {P Q : Program} (agree : Agrees P Q) where
 
   own_agrees : (n : ℕ) (s : Subject) (D E : definition.Def) → SameSignature D E → IsOwn P n s D.tparams D.funs → IsOwn Q n s E.tparams E.funs
   own_agrees n s D E same is =
-      subst (λ (tparams : ℕ). IsOwn Q n s tparams E.funs) (sym same.tparams) (subst (λ (funs : List FnType). IsOwn Q n s D.tparams funs) (sym same.funs) (subject_agrees is))
+      subst (λ (tparams : ℕ). IsOwn Q n s tparams E.funs) (sym same.tparams)
+      (subst (λ (funs : List FnType). IsOwn Q n s D.tparams funs) (sym same.funs) (subject_agrees is))
 
   own_clause : (p : Prop) (s : Subject) (D E : definition.Def) → SameSignature D E → clause_for s p D.tparams D.funs ≡ clause_for s p E.tparams E.funs
   own_clause p s D E same = λ i. clause_for s p (sym same.tparams i) (sym same.funs i)
@@ -89,7 +92,8 @@ module _ {P Q : Program} (agree : Agrees P Q) where
   pub sides_agree : {place : Place} {context : Context} {e : Equation} → AreSidesTyped P place context e → AreSidesTyped Q place context e
   sides_agree typed = record { T = typed.T; left = term_agrees agree typed.left; right = term_agrees agree typed.right }
 
-  pub all_sides_agree : (place : Place) (context : Context) (es : List Equation) → All (AreSidesTyped P place context) es → All (AreSidesTyped Q place context) es
+  pub all_sides_agree : (place : Place) (context : Context) (es : List Equation) → All (AreSidesTyped P place context) es →
+      All (AreSidesTyped Q place context) es
   all_sides_agree place context es all = All-weaker (AreSidesTyped P place context) (AreSidesTyped Q place context) (λ e typed. sides_agree typed) es all
 
   pub typed_lemma_agrees : {number : ℕ} {l : proposition.Lemma} → IsTypedLemma P number l → IsTypedLemma Q number l
@@ -127,10 +131,17 @@ pub same_signature : (D : definition.Def) → SameSignature D D
 same_signature D = record { tparams = refl; funs = refl; params = refl; result = refl; seen = refl }
 
 pub same_signature_then : {D E F : definition.Def} → SameSignature D E → SameSignature E F → SameSignature D F
-same_signature_then a b = record { tparams = b.tparams ∙ a.tparams; funs = b.funs ∙ a.funs; params = b.params ∙ a.params; result = b.result ∙ a.result; seen = b.seen ∙ a.seen }
+same_signature_then a b = record {
+  tparams = b.tparams ∙ a.tparams;
+  funs = b.funs ∙ a.funs;
+  params = b.params ∙ a.params;
+  result = b.result ∙ a.result;
+  seen = b.seen ∙ a.seen;
+}
 
 -- definitions that stand in both are the same there
-kept_defs : (defs more : List definition.Def) (n : ℕ) (D : definition.Def) → slice_get defs n ≡ Some D → IsSomeAnd (slice_get (defs ++ more) n) (SameSignature D)
+kept_defs : (defs more : List definition.Def) (n : ℕ) (D : definition.Def) → slice_get defs n ≡ Some D →
+    IsSomeAnd (slice_get (defs ++ more) n) (SameSignature D)
 kept_defs defs more n D e = some_and (slice_get (defs ++ more) n) (SameSignature D) D (get_left defs more n D e) (same_signature D)
 
 same_defs : (defs : List definition.Def) (n : ℕ) (D : definition.Def) → slice_get defs n ≡ Some D → IsSomeAnd (slice_get defs n) (SameSignature D)
@@ -171,16 +182,20 @@ agrees_with_names P names = record { datatypes = λ d E e. e; defs = same_defs P
 pub agrees_with_body : (P : Program) (D E : definition.Def) → SameSignature D E → Agrees (with_definition P D) (with_definition P E)
 agrees_with_body P D E same = record { datatypes = λ d F e. e; defs = λ n F e. go n F (last_cases P.defs D n F e); declared = λ i x e. e }
   where
-    go : (n : ℕ) (F : definition.Def) → (slice_get P.defs n ≡ Some F) ⊎ IsLast (length P.defs) D n F → IsSomeAnd (slice_get (P.defs ++ E ∷ []) n) (SameSignature F)
+    go : (n : ℕ) (F : definition.Def) → (slice_get P.defs n ≡ Some F) ⊎ IsLast (length P.defs) D n F →
+        IsSomeAnd (slice_get (P.defs ++ E ∷ []) n) (SameSignature F)
     go n F (inl e) = kept_defs P.defs (E ∷ []) n F e
     go n F (inr last) =
-        some_and (slice_get (P.defs ++ E ∷ []) n) (SameSignature F) E (ap (slice_get (P.defs ++ E ∷ [])) last.place ∙ get_last P.defs E) (subst (λ (G : definition.Def). SameSignature G E) last.same same)
+        some_and (slice_get (P.defs ++ E ∷ []) n) (SameSignature F) E (ap (slice_get (P.defs ++ E ∷ [])) last.place ∙ get_last P.defs E)
+        (subst (λ (G : definition.Def). SameSignature G E) last.same same)
 
 -- a datatype whose constructors are not looked at yet
 pub types_agree_with_constructors : (P : Program) (D E : DataDef) → E.tparams ≡ D.tparams → AgreeOnTypes (with_datatype P D) (with_datatype P E)
 types_agree_with_constructors P D E same = record { datatypes = λ d F e. go d F (last_cases P.datatypes D d F e) }
   where
-    go : (d : ℕ) (F : DataDef) → (slice_get P.datatypes d ≡ Some F) ⊎ IsLast (length P.datatypes) D d F → IsSomeAnd (slice_get (P.datatypes ++ E ∷ []) d) (λ (G : DataDef). G.tparams ≡ F.tparams)
+    go : (d : ℕ) (F : DataDef) → (slice_get P.datatypes d ≡ Some F) ⊎ IsLast (length P.datatypes) D d F →
+        IsSomeAnd (slice_get (P.datatypes ++ E ∷ []) d) (λ (G : DataDef). G.tparams ≡ F.tparams)
     go d F (inl e) = some_and (slice_get (P.datatypes ++ E ∷ []) d) (λ (G : DataDef). G.tparams ≡ F.tparams) F (get_left P.datatypes (E ∷ []) d F e) refl
     go d F (inr last) =
-        some_and (slice_get (P.datatypes ++ E ∷ []) d) (λ (G : DataDef). G.tparams ≡ F.tparams) E (ap (slice_get (P.datatypes ++ E ∷ [])) last.place ∙ get_last P.datatypes E) (same ∙ ap (λ (G : DataDef). G.tparams) last.same)
+        some_and (slice_get (P.datatypes ++ E ∷ []) d) (λ (G : DataDef). G.tparams ≡ F.tparams) E
+        (ap (slice_get (P.datatypes ++ E ∷ [])) last.place ∙ get_last P.datatypes E) (same ∙ ap (λ (G : DataDef). G.tparams) last.same)

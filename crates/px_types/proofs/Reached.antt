@@ -1,5 +1,6 @@
 -- What the declarations so far have made: a typed program, with as many parts as the written declarations tell.
-use Rattle.std.proofs.Common.{◌≡◌, ℕ, suc, ◌+◌, ◌<◌, ◌≤◌, ◌^◌, List, [], ◌∷◌, ◌++◌, length, map, drop, Some, refl, sym, ◌∙◌, ap, subst, arith, add-one, zero-add, lit<}
+use Rattle.std.proofs.Common.{◌≡◌, ℕ, suc, ◌+◌, ◌<◌, ◌≤◌, ◌^◌, List, [], ◌∷◌, ◌++◌, length, map, drop, Some, refl, sym, ◌∙◌, ap, subst, arith}
+use Rattle.std.proofs.Common.{add-one, zero-add, lit<}
 use Rattle.std.specs.Prelude.{slice_get, sum}
 use Rattle.std.proofs.lemmas.List.{length-append, append-nil}
 use Rattle.std.proofs.lemmas.List.Sums.{sum_by-cons}
@@ -14,7 +15,8 @@ use Rattle.px_base.specs.declared.raw.RawDef.{RawDef}
 use Rattle.px_base.specs.declared.raw.RawClaim.{RawClaim}
 use Rattle.px_base.specs.declared.raw.RawLemma.{RawLemma}
 use Rattle.px_base.specs.declared.raw.RawProgram.{RawProgram}
-use Rattle.px_base.specs.Fitting.{Counts, IsShort, IsDataIn, IsDefIn, IsClaimIn, IsLemmaIn, AreInOrder, bool_alone, def_props, claim_props, obligation_count, AreShort, IsFitting}
+use Rattle.px_base.specs.Fitting.{Counts, IsShort, IsDataIn, IsDefIn, IsClaimIn, IsLemmaIn, AreInOrder, bool_alone, def_props, claim_props}
+use Rattle.px_base.specs.Fitting.{obligation_count, AreShort, IsFitting}
 use Rattle.px_base.specs.Fitting as fitting
 use Rattle.px_terms.specs.declared.types.FnType.{FnType}
 use Rattle.px_terms.specs.declared.program.ConDef.{ConDef}
@@ -30,10 +32,12 @@ use Rattle.px_terms.specs.Typing.{StandsBefore}
 use Rattle.px_terms.specs.TypedPrograms.{IsTypedData, IsTypedDef, IsTypedLemma, IsTypedReplica, IsTyped}
 use Rattle.px_types.specs.Written.{AreFnTys}
 use Rattle.px_types.specs.Written as written
-use Rattle.px_types.specs.Declarations.{AreCons, IsData, IsSignature, IsLemma, obligations_of, AllFit, with_datatype, with_definition, with_obligations, with_lemma, with_replica, IsNext, AreNext, start, IsProgramOf}
+use Rattle.px_types.specs.Declarations.{AreCons, IsData, IsSignature, IsLemma, obligations_of, AllFit, with_datatype, with_definition}
+use Rattle.px_types.specs.Declarations.{with_obligations, with_lemma, with_replica, IsNext, AreNext, start, IsProgramOf}
 use Rattle.px_types.specs.Declarations as declarations
 use Rattle.px_types.proofs.Appending.{one_item, some_and, get_last, item_below, Each, each_none, each_pushed, each_weaker, drop_at}
-use Rattle.px_types.proofs.TypedSteps.{start_is_typed, datatype_is_typed, definition_is_typed, obligations_are_typed, lemma_is_typed, replica_is_typed, names_are_typed}
+use Rattle.px_types.proofs.TypedSteps.{start_is_typed, datatype_is_typed, definition_is_typed, obligations_are_typed, lemma_is_typed}
+use Rattle.px_types.proofs.TypedSteps.{replica_is_typed, names_are_typed}
 
 -- how many obligations the declarations that are left make
 abbrev pub left_count : RawProgram → Counts → ℕ
@@ -63,6 +67,7 @@ pub record IsReached (raw : RawProgram) (C : Counts) (P : Program) : Type 0 wher
   pub lemmas : C.lemmas ≡ length P.lemmas
   pub replicas : C.replicas ≡ length P.replicas
   pub within : C.defs ≤ length raw.defs
+  pub lemmas_within : C.lemmas ≤ length raw.lemmas
   pub obligations : length P.declared + left_count raw C ≡ obligation_count raw
   pub seen : Each (IsSeenBy (length P.declared)) P.defs
   pub few_cons : Each HasFewCons P.datatypes
@@ -82,10 +87,12 @@ claim_props_more raw rest = sum_more (length raw.props) (map (λ (raw : RawClaim
 next_items : {X : Type 0} (xs : List X) (i : ℕ) (x : X) → slice_get xs i ≡ Some x → drop i xs ≡ x ∷ drop (i + 1) xs
 next_items xs i x e = drop_at xs i x e ∙ ap (λ (n : ℕ). x ∷ drop n xs) (sym (add-one i))
 
-defs_left : (defs : List RawDef) (n : ℕ) (raw : RawDef) → slice_get defs n ≡ Some raw → def_props (drop n defs) ≡ length raw.props + def_props (drop (n + 1) defs)
+defs_left : (defs : List RawDef) (n : ℕ) (raw : RawDef) → slice_get defs n ≡ Some raw →
+    def_props (drop n defs) ≡ length raw.props + def_props (drop (n + 1) defs)
 defs_left defs n raw e = ap def_props (next_items defs n raw e) ∙ def_props_more raw (drop (n + 1) defs)
 
-claims_left : (claims : List RawClaim) (n : ℕ) (raw : RawClaim) → slice_get claims n ≡ Some raw → claim_props (drop n claims) ≡ length raw.props + claim_props (drop (n + 1) claims)
+claims_left : (claims : List RawClaim) (n : ℕ) (raw : RawClaim) → slice_get claims n ≡ Some raw →
+    claim_props (drop n claims) ≡ length raw.props + claim_props (drop (n + 1) claims)
 claims_left claims n raw e = ap claim_props (next_items claims n raw e) ∙ claim_props_more raw (drop (n + 1) claims)
 
 lemmas_left : (lemmas : List RawLemma) (n : ℕ) (raw : RawLemma) → slice_get lemmas n ≡ Some raw → length (drop n lemmas) ≡ suc (length (drop (n + 1) lemmas))
@@ -103,6 +110,9 @@ length_more xs x = length-append xs (x ∷ [])
 
 one_longer : {X : Type 0} (count : ℕ) (xs : List X) (x : X) → count ≡ length xs → count + 1 ≡ length (xs ++ x ∷ [])
 one_longer count xs x e = ap (λ (n : ℕ). n + 1) e ∙ sym (length_more xs x)
+
+one_within : {X : Type 0} (n : ℕ) (xs : List X) (x : X) → slice_get xs n ≡ Some x → n + 1 ≤ length xs
+one_within n xs x e = let below : n < length xs = slice_get_within xs n x e in omega arith
 
 -- as many as are written
 cons_length : {raws : List RawCon} {cons : List ConDef} → AreCons raws cons → length raws ≡ length cons
@@ -122,19 +132,10 @@ seen_later count more defs fewer all = each_weaker (IsSeenBy count) (IsSeenBy mo
     later : (seen : ℕ) → seen ≤ count → seen ≤ more
     later seen before = omega arith
 
--- the balance of what is declared and what is left
-def_balance : (before props left now rest claims lemmas total : ℕ) → now ≡ before + props → left ≡ props + rest → before + (left + claims + lemmas) ≡ total → now + (rest + claims + lemmas) ≡ total
-def_balance before props left now rest claims lemmas total e f balance = omega arith
-
-claim_balance : (before props left now rest defs lemmas total : ℕ) → now ≡ before + props → left ≡ props + rest → before + (defs + left + lemmas) ≡ total → now + (defs + rest + lemmas) ≡ total
-claim_balance before props left now rest defs lemmas total e f balance = omega arith
-
-lemma_balance : (before left now rest defs claims total : ℕ) → now ≡ before + 1 → left ≡ suc rest → before + (defs + claims + left) ≡ total → now + (defs + claims + rest) ≡ total
-lemma_balance before left now rest defs claims total e f balance = omega arith
-
 -- one declaration more
 module _ (raw : RawProgram) (C : Counts) (P : Program) (reached : IsReached raw C P) where
-  data_step : (d : RawData) (D : DataDef) → IsDataIn C d → IsData d D → IsTypedData (with_datatype P D) D → IsReached raw (record C { datatypes = C.datatypes + 1 }) (with_datatype P D)
+  data_step : (d : RawData) (D : DataDef) → IsDataIn C d → IsData d D → IsTypedData (with_datatype P D) D →
+      IsReached raw (record C { datatypes = C.datatypes + 1 }) (with_datatype P D)
   data_step d D fits is typed = record {
     typed = datatype_is_typed P reached.typed D typed;
     datatypes = one_longer C.datatypes P.datatypes D reached.datatypes;
@@ -142,6 +143,7 @@ module _ (raw : RawProgram) (C : Counts) (P : Program) (reached : IsReached raw 
     lemmas = reached.lemmas;
     replicas = reached.replicas;
     within = reached.within;
+    lemmas_within = reached.lemmas_within;
     obligations = reached.obligations;
     seen = reached.seen;
     few_cons = each_pushed HasFewCons P.datatypes D reached.few_cons (few_of (length d.cons) (length D.cons) (2 ^ 32) (cons_length is.cons) fits.few);
@@ -149,18 +151,24 @@ module _ (raw : RawProgram) (C : Counts) (P : Program) (reached : IsReached raw 
     few_lemma_funs = reached.few_lemma_funs;
   }
 
-  definition_step : (d : RawDef) (D : definition.Def) → slice_get raw.defs C.defs ≡ Some d → IsDefIn raw C d → IsSignature (length P.declared) d D → IsTypedDef (with_definition P D) C.defs D → AllFit (with_definition P D) C.defs d.props → IsReached raw (record C { defs = C.defs + 1 }) (with_obligations (with_definition P D) (obligations_of C.defs d.props))
+  definition_step : (d : RawDef) (D : definition.Def) → slice_get raw.defs C.defs ≡ Some d → IsDefIn raw C d → IsSignature (length P.declared) d D →
+      IsTypedDef (with_definition P D) C.defs D → AllFit (with_definition P D) C.defs d.props →
+      IsReached raw (record C { defs = C.defs + 1 }) (with_obligations (with_definition P D) (obligations_of C.defs d.props))
   definition_step d D stands fits is typed fit = record {
-    typed = obligations_are_typed (with_definition P D) (definition_is_typed P reached.typed D (subst (λ (n : ℕ). IsTypedDef (with_definition P D) n D) reached.defs typed)) C.defs d.props stands_here fit;
+    typed = obligations_are_typed (with_definition P D)
+        (definition_is_typed P reached.typed D (subst (λ (n : ℕ). IsTypedDef (with_definition P D) n D) reached.defs typed)) C.defs d.props stands_here fit;
     datatypes = reached.datatypes;
     defs = one_longer C.defs P.defs D reached.defs;
     lemmas = reached.lemmas;
     replicas = reached.replicas;
-    within = (let below : C.defs < length raw.defs = slice_get_within raw.defs C.defs d stands in omega arith);
-    obligations = def_balance (length P.declared) (length d.props) (def_props (drop C.defs raw.defs)) (length (P.declared ++ obligations_of C.defs d.props)) (def_props (drop (C.defs + 1) raw.defs)) (claim_props (drop C.claims raw.claims)) (length (drop C.lemmas raw.lemmas)) (obligation_count raw) more (defs_left raw.defs C.defs d stands) reached.obligations;
-    seen = seen_later (length P.declared) (length (P.declared ++ obligations_of C.defs d.props)) (P.defs ++ D ∷ []) longer (each_pushed (IsSeenBy (length P.declared)) P.defs D reached.seen seen_here);
+    within = one_within C.defs raw.defs d stands;
+    lemmas_within = reached.lemmas_within;
+    obligations = omega (arith, more, defs_left raw.defs C.defs d stands, reached.obligations);
+    seen = seen_later (length P.declared) (length (P.declared ++ obligations_of C.defs d.props)) (P.defs ++ D ∷ []) longer
+        (each_pushed (IsSeenBy (length P.declared)) P.defs D reached.seen seen_here);
     few_cons = reached.few_cons;
-    few_funs = each_pushed HasFewFuns P.defs D reached.few_funs (few_of (length d.funs) (length D.funs) (2 ^ 32) (funs_length is.funs) fits.parameters.few_functions);
+    few_funs = each_pushed HasFewFuns P.defs D reached.few_funs
+        (few_of (length d.funs) (length D.funs) (2 ^ 32) (funs_length is.funs) fits.parameters.few_functions);
     few_lemma_funs = reached.few_lemma_funs;
   }
     where
@@ -168,7 +176,8 @@ module _ (raw : RawProgram) (C : Counts) (P : Program) (reached : IsReached raw 
       seen_here = let e : D.seen ≡ length P.declared = is.stands in omega arith
 
       stands_here : StandsBefore (with_definition P D) C.defs (length P.declared)
-      stands_here = some_and (slice_get (P.defs ++ D ∷ []) C.defs) (λ (E : definition.Def). E.seen ≤ length P.declared) D (subst (λ (n : ℕ). slice_get (P.defs ++ D ∷ []) n ≡ Some D) (sym reached.defs) (get_last P.defs D)) seen_here
+      stands_here = some_and (slice_get (P.defs ++ D ∷ []) C.defs) (λ (E : definition.Def). E.seen ≤ length P.declared) D
+          (subst (λ (n : ℕ). slice_get (P.defs ++ D ∷ []) n ≡ Some D) (sym reached.defs) (get_last P.defs D)) seen_here
 
       more : length (P.declared ++ obligations_of C.defs d.props) ≡ length P.declared + length d.props
       more = declared_more P.declared C.defs d.props
@@ -176,7 +185,8 @@ module _ (raw : RawProgram) (C : Counts) (P : Program) (reached : IsReached raw 
       longer : length P.declared ≤ length (P.declared ++ obligations_of C.defs d.props)
       longer = let e = more in omega arith
 
-  claim_step : (c : RawClaim) → slice_get raw.claims C.claims ≡ Some c → IsClaimIn C c → AllFit P c.def c.props → IsReached raw (record C { claims = C.claims + 1 }) (with_obligations P (obligations_of c.def c.props))
+  claim_step : (c : RawClaim) → slice_get raw.claims C.claims ≡ Some c → IsClaimIn C c → AllFit P c.def c.props →
+      IsReached raw (record C { claims = C.claims + 1 }) (with_obligations P (obligations_of c.def c.props))
   claim_step c stands fits fit = record {
     typed = obligations_are_typed P reached.typed c.def c.props stands_here fit;
     datatypes = reached.datatypes;
@@ -184,7 +194,8 @@ module _ (raw : RawProgram) (C : Counts) (P : Program) (reached : IsReached raw 
     lemmas = reached.lemmas;
     replicas = reached.replicas;
     within = reached.within;
-    obligations = claim_balance (length P.declared) (length c.props) (claim_props (drop C.claims raw.claims)) (length (P.declared ++ obligations_of c.def c.props)) (claim_props (drop (C.claims + 1) raw.claims)) (def_props (drop C.defs raw.defs)) (length (drop C.lemmas raw.lemmas)) (obligation_count raw) more (claims_left raw.claims C.claims c stands) reached.obligations;
+    lemmas_within = reached.lemmas_within;
+    obligations = omega (arith, more, claims_left raw.claims C.claims c stands, reached.obligations);
     seen = seen_later (length P.declared) (length (P.declared ++ obligations_of c.def c.props)) P.defs longer reached.seen;
     few_cons = reached.few_cons;
     few_funs = reached.few_funs;
@@ -202,7 +213,8 @@ module _ (raw : RawProgram) (C : Counts) (P : Program) (reached : IsReached raw 
       longer : length P.declared ≤ length (P.declared ++ obligations_of c.def c.props)
       longer = let e = more in omega arith
 
-  lemma_step : (l : RawLemma) (L : proposition.Lemma) → slice_get raw.lemmas C.lemmas ≡ Some l → IsLemmaIn raw C l → IsLemma P l L → IsTypedLemma P (length P.declared) L → IsReached raw (record C { lemmas = C.lemmas + 1 }) (with_lemma P L)
+  lemma_step : (l : RawLemma) (L : proposition.Lemma) → slice_get raw.lemmas C.lemmas ≡ Some l → IsLemmaIn raw C l → IsLemma P l L →
+      IsTypedLemma P (length P.declared) L → IsReached raw (record C { lemmas = C.lemmas + 1 }) (with_lemma P L)
   lemma_step l L stands fits is typed = record {
     typed = lemma_is_typed P reached.typed L typed;
     datatypes = reached.datatypes;
@@ -210,11 +222,13 @@ module _ (raw : RawProgram) (C : Counts) (P : Program) (reached : IsReached raw 
     lemmas = one_longer C.lemmas P.lemmas L reached.lemmas;
     replicas = reached.replicas;
     within = reached.within;
-    obligations = lemma_balance (length P.declared) (length (drop C.lemmas raw.lemmas)) (length (P.declared ++ declared.Lemma (length P.lemmas) ∷ [])) (length (drop (C.lemmas + 1) raw.lemmas)) (def_props (drop C.defs raw.defs)) (claim_props (drop C.claims raw.claims)) (obligation_count raw) more (lemmas_left raw.lemmas C.lemmas l stands) reached.obligations;
+    lemmas_within = one_within C.lemmas raw.lemmas l stands;
+    obligations = omega (arith, more, lemmas_left raw.lemmas C.lemmas l stands, reached.obligations);
     seen = seen_later (length P.declared) (length (P.declared ++ declared.Lemma (length P.lemmas) ∷ [])) P.defs longer reached.seen;
     few_cons = reached.few_cons;
     few_funs = reached.few_funs;
-    few_lemma_funs = each_pushed HasFewLemmaFuns P.lemmas L reached.few_lemma_funs (few_of (length l.funs) (length L.funs) (2 ^ 32) (funs_length is.funs) fits.parameters.few_functions);
+    few_lemma_funs = each_pushed HasFewLemmaFuns P.lemmas L reached.few_lemma_funs
+        (few_of (length l.funs) (length L.funs) (2 ^ 32) (funs_length is.funs) fits.parameters.few_functions);
   }
     where
       more : length (P.declared ++ declared.Lemma (length P.lemmas) ∷ []) ≡ length P.declared + 1
@@ -231,6 +245,7 @@ module _ (raw : RawProgram) (C : Counts) (P : Program) (reached : IsReached raw 
     lemmas = reached.lemmas;
     replicas = one_longer C.replicas P.replicas r reached.replicas;
     within = reached.within;
+    lemmas_within = reached.lemmas_within;
     obligations = reached.obligations;
     seen = reached.seen;
     few_cons = reached.few_cons;
@@ -255,27 +270,34 @@ record IsDefined (raw : RawProgram) (P Q : Program) (d : RawDef) (D : definition
 same_item : {X : Type 0} (xs : List X) (n : ℕ) (x y : X) → slice_get xs n ≡ Some x → slice_get xs n ≡ Some y → x ≡ y
 same_item xs n x y e f = one_item x y (sym e ∙ f)
 
-pub one_more : {raw : RawProgram} {C : Counts} {P Q : Program} {d : Decl} {rest : List Decl} → IsReached raw C P → AreInOrder raw C (d ∷ rest) → IsNext raw P d Q → IsTaken raw rest Q
+-- the program that a declaration makes
+made_by : {raw : RawProgram} {D : Counts} {P Q : Program} {rest : List Decl} → Q ≡ P → IsReached raw D P → AreInOrder raw D rest → IsTaken raw rest Q
+made_by {raw} {D} {rest = rest} same reached order = subst (IsTaken raw rest) (sym same) (record { counts = D; reached = reached; order = order })
+
+pub one_more : {raw : RawProgram} {C : Counts} {P Q : Program} {d : Decl} {rest : List Decl} →
+    IsReached raw C P → AreInOrder raw C (d ∷ rest) → IsNext raw P d Q → IsTaken raw rest Q
 one_more {raw} {C} {P} reached (fitting.datatype {n = n} {raw = d0} place stands fits order) (declarations.datatype {d = d} {D = D} here is typed same) =
     let fits_here : IsDataIn C d = subst (IsDataIn C) (same_item raw.datatypes n d0 d stands here) fits in
-    record { counts = record C { datatypes = C.datatypes + 1 }; reached = subst (IsReached raw (record C { datatypes = C.datatypes + 1 })) (sym same) (data_step raw C P reached d D fits_here is typed); order = order }
-one_more {raw} {C} {P} {Q} reached (fitting.definition {n = n} {raw = d0} place stands fits order) (declarations.definition {d = d} {D = D} here is body typed fit same) =
+    made_by same (data_step raw C P reached d D fits_here is typed) order
+one_more {raw} {C} {P} {Q} reached (fitting.definition {n = n} {raw = d0} place stands fits order)
+    (declarations.definition {d = d} {D = D} here is body typed fit same) =
     let fits_here : IsDefIn raw C d = subst (IsDefIn raw C) (same_item raw.defs n d0 d stands here) fits in
     let defined : IsDefined raw P Q d D C.defs = subst (IsDefined raw P Q d D) place (record { stands = here; typed = typed; fit = fit; same = same }) in
-    record { counts = record C { defs = C.defs + 1 }; reached = subst (IsReached raw (record C { defs = C.defs + 1 })) (sym defined.same) (definition_step raw C P reached d D defined.stands fits_here is defined.typed defined.fit); order = order }
+    made_by defined.same (definition_step raw C P reached d D defined.stands fits_here is defined.typed defined.fit) order
 one_more {raw} {C} {P} reached (fitting.claim {n = n} {raw = c0} place stands fits order) (declarations.claim {c = c} here fit same) =
     let fits_here : IsClaimIn C c = subst (IsClaimIn C) (same_item raw.claims n c0 c stands here) fits in
     let at : slice_get raw.claims C.claims ≡ Some c = subst (λ (k : ℕ). slice_get raw.claims k ≡ Some c) place here in
-    record { counts = record C { claims = C.claims + 1 }; reached = subst (IsReached raw (record C { claims = C.claims + 1 })) (sym same) (claim_step raw C P reached c at fits_here fit); order = order }
+    made_by same (claim_step raw C P reached c at fits_here fit) order
 one_more {raw} {C} {P} reached (fitting.lemma {n = n} {raw = l0} place stands fits order) (declarations.lemma {l = l} {L = L} here is typed same) =
     let fits_here : IsLemmaIn raw C l = subst (IsLemmaIn raw C) (same_item raw.lemmas n l0 l stands here) fits in
     let at : slice_get raw.lemmas C.lemmas ≡ Some l = subst (λ (k : ℕ). slice_get raw.lemmas k ≡ Some l) place here in
-    record { counts = record C { lemmas = C.lemmas + 1 }; reached = subst (IsReached raw (record C { lemmas = C.lemmas + 1 })) (sym same) (lemma_step raw C P reached l L at fits_here is typed); order = order }
+    made_by same (lemma_step raw C P reached l L at fits_here is typed) order
 one_more {raw} {C} {P} reached (fitting.replica place stands fits order) (declarations.replica {R = R} here is typed same) =
-    record { counts = record C { replicas = C.replicas + 1 }; reached = subst (IsReached raw (record C { replicas = C.replicas + 1 })) (sym same) (replica_step raw C P reached R typed); order = order }
+    made_by same (replica_step raw C P reached R typed) order
 
 -- the declarations that are taken in turn
-pub some_more : {raw : RawProgram} {P Q : Program} {before : List Decl} → AreNext raw P before Q → (after : List Decl) (C : Counts) → IsReached raw C P → AreInOrder raw C (before ++ after) → IsTaken raw after Q
+pub some_more : {raw : RawProgram} {P Q : Program} {before : List Decl} → AreNext raw P before Q → (after : List Decl) (C : Counts) →
+    IsReached raw C P → AreInOrder raw C (before ++ after) → IsTaken raw after Q
 some_more declarations.none after C reached order = record { counts = C; reached = reached; order = order }
 some_more (declarations.more next rest) after C reached order =
     let taken = one_more reached order next in
@@ -289,6 +311,7 @@ start_is_reached raw = record {
   lemmas = refl;
   replicas = refl;
   within = omega arith;
+  lemmas_within = omega arith;
   obligations = zero-add (obligation_count raw);
   seen = each_none (IsSeenBy 0);
   few_cons = each_pushed HasFewCons [] bool_data (each_none HasFewCons) (lit< tt);
@@ -305,6 +328,7 @@ names_are_reached {P} reached names = record {
   lemmas = reached.lemmas;
   replicas = reached.replicas;
   within = reached.within;
+  lemmas_within = reached.lemmas_within;
   obligations = reached.obligations;
   seen = reached.seen;
   few_cons = reached.few_cons;
@@ -313,7 +337,8 @@ names_are_reached {P} reached names = record {
 }
 
 -- Each part of the order makes a program that is reached.
-pub reached_by : (raw : RawProgram) → IsFitting raw → (before after : List Decl) → raw.order ≡ before ++ after → (P : Program) → AreNext raw start before P → IsTaken raw after P
+pub reached_by : (raw : RawProgram) → IsFitting raw → (before after : List Decl) → raw.order ≡ before ++ after → (P : Program) →
+    AreNext raw start before P → IsTaken raw after P
 reached_by raw fits before after e P typed = some_more typed after bool_alone (start_is_reached raw) (subst (AreInOrder raw bool_alone) e fits.order)
 
 pub program_is_reached : (raw : RawProgram) (P : Program) → IsFitting raw → IsProgramOf raw P → IsTaken raw [] P
