@@ -14,6 +14,17 @@ pub mod SlotLemmas
 pub mod ArmsExact
 pub mod MatchExact
 pub mod AllExact
+pub mod OwnTypes
+pub mod FitsExact
+pub mod PropsExact
+pub mod HeadingsExact
+pub mod PartsExact
+pub mod DefinitionsExact
+pub mod DatatypesExact
+pub mod EquationsExact
+pub mod ReplicasExact
+pub mod NextExact
+pub mod ProgramsExact
 pub mod Appending
 pub mod Agreement
 pub mod TermsAgree
