@@ -14,3 +14,13 @@ pub mod SlotLemmas
 pub mod ArmsExact
 pub mod MatchExact
 pub mod AllExact
+pub mod NoteLemmas
+pub mod PropSteps
+pub mod EnvLemmas
+pub mod Headings
+pub mod DatatypeSteps
+pub mod EquationSteps
+pub mod ReplicaSteps
+pub mod CountSteps
+pub mod FitsExact
+pub mod ListSteps

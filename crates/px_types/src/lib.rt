@@ -3,14 +3,31 @@
 //! (`specs/Written.antt`), and which fault is its first (`specs/Faults.antt`).
 #![tactic(auto)]
 
+mod arguments;
+mod checking;
+mod datatypes;
+mod declare;
+mod definitions;
 mod ends;
+mod env;
 mod laws;
+mod lemmas;
+mod lists;
+mod notes;
+mod programs;
+mod replicas;
+mod said;
+mod signatures;
+mod start;
+mod terms;
 mod typed;
 mod types;
 
+pub use checking::Checking;
 pub use ends::{TypeEnd, TypeKind};
 pub use laws::{
     always_one, arguments_are_found, arguments_break_as_found, never_both, one_fault, one_typing, parts_are_found, parts_break_as_found, terms_are_found, terms_break_as_found, types_are_found, types_break_as_found,
 };
+pub use programs::check_types;
 pub use typed::Typed;
 pub use types::{type_ty, type_tys};
