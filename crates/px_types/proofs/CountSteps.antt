@@ -174,11 +174,11 @@ in_order raw C _ (fitting.done all) =
 in_order raw C _ (fitting.datatype {n = n} {rest = rest} same at is others) =
     omega (arith, in_order raw _ rest others, sum-cons (added raw) (decl.Datatype n) rest)
 in_order raw C _ (fitting.definition {n = n} {raw = d} {rest = rest} same at is others) =
-    let more : def_props (take (C.defs + 1) raw.defs) ≡ def_props (take C.defs raw.defs) + length d.props = sum_more (λ (e : RawDef). length e.props) raw.defs C.defs d (rw (sym same) at at) in
+    let more : def_props (take (C.defs + 1) raw.defs) ≡ def_props (take C.defs raw.defs) + length d.props = sum_more (λ (e : RawDef). length e.props) raw.defs C.defs d (rw same at at) in
     let here : added raw (decl.Definition n) ≡ length d.props = ap props_in at in
     omega (arith, in_order raw _ rest others, sum-cons (added raw) (decl.Definition n) rest, more, here)
 in_order raw C _ (fitting.claim {n = n} {raw = c} {rest = rest} same at is others) =
-    let more : claim_props (take (C.claims + 1) raw.claims) ≡ claim_props (take C.claims raw.claims) + length c.props = sum_more (λ (e : RawClaim). length e.props) raw.claims C.claims c (rw (sym same) at at) in
+    let more : claim_props (take (C.claims + 1) raw.claims) ≡ claim_props (take C.claims raw.claims) + length c.props = sum_more (λ (e : RawClaim). length e.props) raw.claims C.claims c (rw same at at) in
     let here : added raw (decl.Claim n) ≡ length c.props = ap claims_in at in
     omega (arith, in_order raw _ rest others, sum-cons (added raw) (decl.Claim n) rest, more, here)
 in_order raw C _ (fitting.lemma {n = n} {rest = rest} same at is others) =

@@ -48,3 +48,8 @@ module _ (P : Program) (d : RawData) where
 
   pub check_ok : (cons : List ConDef) → own_found ≡ Ok cons → checked (datatype_found P d) ≡ Ok tt
   check_ok cons is = stage _ _ checked_is _ (datatype_ok cons is)
+
+-- the datatype stands at the end of a program that is as before
+pub took_datatype : (P : Program) (d : RawData) (Q : Program) (all : List DataDef) (cons : List ConDef) → own_found P d ≡ Ok cons → Q ≡ P → all ≡ Q.datatypes ++ record { tparams = d.tparams; cons = cons } ∷ [] → datatype_found P d ≡ Ok (record Q { datatypes = all })
+took_datatype P d Q all cons is same pushed =
+    datatype_ok P d cons is ∙ ap Ok (λ i. record (sym same i) { datatypes = (ap (λ (R : Program). R.datatypes ++ record { tparams = d.tparams; cons = cons } ∷ []) (sym same) ∙ sym pushed) i })

@@ -1,7 +1,8 @@
 -- What is found of a definition's heading, of its signature and of its body, by the stages of the code.
-use Rattle.std.proofs.Common.{◌≡◌, ℕ, ◌+◌, ◌<◌, ◌≤◌, List, [], ◌∷◌, ◌++◌, length, Option, Some, None, Result, Ok, Err, refl, sym, ◌∙◌, ap, subst, arith}
+use Rattle.std.proofs.Common.{◌≡◌, ℕ, ◌+◌, ◌<◌, ◌≤◌, List, [], ◌∷◌, ◌++◌, length, Option, Some, None, Result, Ok, Err, refl, sym, ◌∙◌, ap, subst, arith, length-append}
 use Rattle.std.specs.Prelude.{slice_get}
 use Rattle.std.proofs.lemmas.List.{same_from_push}
+use Rattle.px_base.specs.PropSets.{set_of}
 use Rattle.px_base.specs.declared.head.Head.TheVariants.{Def}
 use Rattle.px_base.specs.declared.prop.PropSet.{PropSet}
 use Rattle.px_base.specs.declared.raw.RawProp.{RawProp}
@@ -24,10 +25,40 @@ use Rattle.px_types.specs.Answers.{EndsAs, Answers}
 use Rattle.px_types.specs.Outcomes.{onward}
 use Rattle.px_types.specs.Outcome.{tys_found, ty_found, part_found, part_of}
 use Rattle.px_types.specs.Declarations.{with_definition, with_obligations, obligations_of, without_body, body_env}
-use Rattle.px_types.specs.NextOutcome.{fn_types_found, heading_found, assumed_found, props_found, signature_found, body_found}
+use Rattle.px_types.specs.Written.{props_of}
+use Rattle.px_types.specs.NextOutcome.{fn_type_found, fn_types_found, heading_found, assumed_found, props_found, signature_found, body_found}
 use Rattle.px_types.specs.Checkings.{AnswersAs, own_env, with_whole}
 use Rattle.px_types.proofs.Stages.{stage, stage_fails, end_is}
 use Rattle.px_types.proofs.EnvLemmas.{last_of}
+
+-- a function type, by its parts
+pub fn_type_ok : (P : Program) (tparams : ℕ) (raw : RawFnType) (params : List Ty) (given : Ty) (props : List RawProp) (set : PropSet) → tys_found P tparams raw.params ≡ Ok params → ty_found P tparams raw.result ≡ Ok given → props ≡ raw.props → set ≡ set_of (props_of props) → fn_type_found P tparams raw ≡ Ok (record { params = params; result = given; props = set })
+unfolding fn_type_found
+fn_type_ok P tparams raw params given props set are is same set_is =
+    stage (ty_found P tparams raw.result) (λ (T : Ty). Ok (record { params = params; result = T; props = set_of (props_of raw.props) })) (stage (tys_found P tparams raw.params) (λ (ps : List Ty). onward (ty_found P tparams raw.result) (λ (T : Ty). Ok (record { params = ps; result = T; props = set_of (props_of raw.props) }))) refl params are) given is
+    ∙ ap (λ (s : PropSet). Ok (record { params = params; result = given; props = s })) (sym (set_is ∙ ap (λ (xs : List RawProp). set_of (props_of xs)) same))
+
+-- the heading of a definition, by its parts
+module _ (P : Program) (d : RawDef) where
+  heading_is : heading_found P d ≡ onward (fn_types_found P d.tparams d.funs) (λ (funs : List FnType). onward (tys_found P d.tparams d.params) (λ (params : List Ty). onward (ty_found P d.tparams d.result) (λ (given : Ty). Ok (record { tparams = d.tparams; funs = funs; params = params; result = given; body = term.Lit 0; seen = length P.declared }))))
+  unfolding heading_found
+  heading_is = refl
+
+  pub heading_funs : (end : TypeEnd) → EndsAs (fn_types_found P d.tparams d.funs) end → EndsAs (heading_found P d) end
+  heading_funs end h = stage_fails _ _ _ heading_is end h
+
+  module _ (funs : List FnType) (funs_are : fn_types_found P d.tparams d.funs ≡ Ok funs) where
+    pub heading_params : (end : TypeEnd) → EndsAs (tys_found P d.tparams d.params) end → EndsAs (heading_found P d) end
+    heading_params end h = stage_fails _ _ _ (stage _ _ heading_is funs funs_are) end h
+
+    module _ (params : List Ty) (params_are : tys_found P d.tparams d.params ≡ Ok params) where
+      pub heading_result : (end : TypeEnd) → EndsAs (ty_found P d.tparams d.result) end → EndsAs (heading_found P d) end
+      heading_result end h = stage_fails _ _ _ (stage _ _ (stage _ _ heading_is funs funs_are) params params_are) end h
+
+      pub heading_ok : (given : Ty) (seen : ℕ) → ty_found P d.tparams d.result ≡ Ok given → seen ≡ length P.declared → heading_found P d ≡ Ok (record { tparams = d.tparams; funs = funs; params = params; result = given; body = term.Lit 0; seen = seen })
+      heading_ok given seen is here =
+          stage _ _ (stage _ _ (stage _ _ heading_is funs funs_are) params params_are) given is
+          ∙ ap (λ (n : ℕ). Ok (record { tparams = d.tparams; funs = funs; params = params; result = given; body = term.Lit 0; seen = n })) (sym here)
 
 -- what a heading has, besides the types
 pub record IsHeading (P : Program) (D : definition.Def) : Type 0 where
@@ -62,8 +93,9 @@ same_last xs all after x last e f = sym (same_from_push xs after x last (sym e �
 
 -- the list is not empty
 pub some_pushed : {X : Type 0} (xs all : List X) (x : X) → all ≡ xs ++ x ∷ [] → 0 < length all
-some_pushed [] all x e = let h : length all ≡ 1 = ap length e in omega arith
-some_pushed (y ∷ ys) all x e = let h : length all ≡ length (ys ++ x ∷ []) + 1 = ap length e in omega arith
+some_pushed xs all x e =
+    let h : length all ≡ length (xs ++ x ∷ []) = ap (λ (ys : List _). length ys) e in
+    omega (arith, length-append xs (x ∷ []))
 
 module _ (P : Program) (d : RawDef) where
   -- a signature, where the heading is right

@@ -24,3 +24,5 @@ pub mod ReplicaSteps
 pub mod CountSteps
 pub mod FitsExact
 pub mod ListSteps
+pub mod EndSteps
+pub mod FitSteps

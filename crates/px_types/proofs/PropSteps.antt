@@ -13,6 +13,7 @@ use Rattle.px_terms.specs.declared.types.FnType.{FnType}
 use Rattle.px_terms.specs.declared.program.Program.{Program}
 use Rattle.px_types.specs.declared.ends.TypeEnd.{TypeEnd}
 use Rattle.px_types.specs.declared.ends.TypeEnd.TheVariants.{Fault, NoMemory}
+use Rattle.px_types.specs.declared.ends.TypeKind.TheVariants.{PropertyShape}
 use Rattle.px_types.specs.Faults.{Broken, breaks}
 use Rattle.px_types.specs.Answers.{EndsAs, Answers}
 use Rattle.px_types.specs.Outcomes.{onward, needs}
@@ -49,7 +50,7 @@ first_left (x ∷ xs) (suc i) = first_left xs i
 module _ (P : Program) (funs : List FnType) where
   fits_left : (i : ℕ) (raw : RawProp) → prop_found P (drop i funs) (FnVar 0) raw ≡ prop_found P funs (FnVar i) raw
   unfolding prop_found fits
-  fits_left i raw = ap (λ (o : Option FnType). needs (passes (λ (s : List Ty × Ty). passes (fits_pair raw.prop s.1) (pair_of s.0)) (option_map (λ (F : FnType). (F.params, F.result)) o)) _ raw.at) (first_left funs i)
+  fits_left i raw = ap (λ (o : Option FnType). needs (passes (λ (s : List Ty × Ty). passes (fits_pair raw.prop s.1) (pair_of s.0)) (option_map (λ (F : FnType). (F.params, F.result)) o)) PropertyShape raw.at) (first_left funs i)
 
   props_left : (i : ℕ) (props : List RawProp) → props_found P (drop i funs) (FnVar 0) props ≡ props_found P funs (FnVar i) props
   unfolding props_found

@@ -14,6 +14,7 @@ pub(crate) enum Stand {
 
 /// What is in scope at a part of a declaration: the program so far, the declaration's place, its type and function
 /// parameters, its data variables, and of each definition the properties that are declared before the place.
+#[derive(Drop)]
 pub(crate) struct Env<'a> {
     pub alloc: Global,
     pub program: &'a Program,
