@@ -4,11 +4,11 @@ use Rattle.std.specs.Prelude.{slice_get, slice_set, ◌==◌, ◌↔◌}
 use Rattle.std.specs.List.{list_any}
 use Rattle.std.specs.Option.{IsSomeAnd}
 use Rattle.std.proofs.Math.Dec.{eqb-suc-zero, eqb-zero-suc, eqb-suc-suc}
-use Rattle.std.proofs.lemmas.Bool.{false≢true, eqb-true, eq-eqb}
+use Rattle.std.proofs.lemmas.Bool.{false≢true}
 use Rattle.std.proofs.lemmas.Bool.Decides.{same_from_decides, Decides-eqb, Decides-or, Decides-like}
-use Rattle.std.proofs.lemmas.List.{take_all, drop-drop}
+use Rattle.std.proofs.lemmas.List.{take_all}
 use Rattle.std.proofs.lemmas.List.Folds.{list_any-append, list_any_more}
-use Rattle.std.proofs.lemmas.Option.{slice_get_within}
+use Rattle.std.proofs.lemmas.Option.{slice_get-get_or}
 use Rattle.px_base.specs.PropSets.{prop_number, has_prop, HasProp}
 use Rattle.px_base.specs.declared.prop.Prop.{Prop}
 use Rattle.px_base.specs.declared.prop.Prop.TheVariants.{Comm, Assoc, Idem, Sel, Refl, Irrefl, Sym, Antisym, Asym, Trans, Conn}
@@ -148,3 +148,15 @@ pub notes_lemma : (obligations : List Declared) (notes : List PropSet) (number :
 notes_lemma obligations notes number before = record {
   are = λ n p. before.are n p ∙ sym (list_any-append (is_property_of n p) obligations (declared.Lemma number ∷ []) ∙ or_none (list_any (is_property_of n p) obligations));
 }
+
+-- all properties of a list are noted
+pub all_noted : (notes looked new : List PropSet) (def : ℕ) (d set : PropSet) (raws : List RawProp) (i : ℕ) → looked ≡ notes → def < length notes → length raws ≤ i → ((p : Prop) → has_prop set p ≡ (has_prop (get_or looked def d) p || among_first i raws p)) → new ≡ slice_set notes def set → (n : ℕ) (p : Prop) → is_noted new n p ≡ (is_noted notes n p || (def == n && is_among (props_of raws) p))
+all_noted notes looked new def d set raws i same below past is e n p =
+    let stands : slice_get notes def ≡ Some (get_or looked def d) = slice_get-get_or notes def d below ∙ ap (λ (xs : List PropSet). Some (get_or xs def d)) (sym same) in
+    ap (λ (xs : List PropSet). is_noted xs n p) e
+    ∙ noted_set notes def (get_or looked def d) set (is_among (props_of raws)) stands (among_all raws i (get_or looked def d) set past is) n p
+
+-- properties are declared of a definition, after room is made for them, and noted
+pub notes_declared : (before after : List Declared) (old room new : List PropSet) (def : ℕ) (raws : List RawProp) → AreNotes before old → ((n : ℕ) (p : Prop) → is_noted room n p ≡ is_noted old n p) → after ≡ before ++ obligations_of def raws → ((n : ℕ) (p : Prop) → is_noted new n p ≡ (is_noted room n p || (def == n && is_among (props_of raws) p))) → AreNotes after new
+notes_declared before after old room new def raws notes same e is =
+    subst (λ (xs : List Declared). AreNotes xs new) (sym e) (notes_more before room new def raws (notes_same before before old room refl notes same) is)
