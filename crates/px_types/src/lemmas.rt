@@ -119,6 +119,7 @@ fn type_variables(alloc: Global, program: &Program, raw: &RawLemma) -> Result<Va
 }
 
 /// Whether the lemma has few enough variables and premises. It takes no memory.
+#[tactic(auto, unfolding(crate::specs::NextOutcome::is_few))]
 fn has_few(raw: &RawLemma) -> bool
     ensures { result ≡ is_few raw.now }
 {
