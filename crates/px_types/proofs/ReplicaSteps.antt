@@ -1,11 +1,15 @@
 -- What is found of a replica, by the stages of the code.
-use Rattle.std.proofs.Common.{◌≡◌, ℕ, ◌≤◌, ◌<◌, Bool, true, false, ◌&&◌, eqb, List, [], ◌∷◌, ◌++◌, length, map, Option, Some, None, Result, Ok, Err, refl, sym, ◌∙◌, ap, subst, Decides, arith, IsTrue}
+use Rattle.std.proofs.Common.{◌≡◌, ◌⊎◌, inl, inr, ℕ, ◌≤◌, ◌<◌, Bool, true, false, ◌&&◌, eqb, List, [], ◌∷◌, ◌++◌, length, map, get_or, Option, Some, None, Result, Ok, Err, refl, sym, ◌∙◌, ap, subst, Decides, arith, IsTrue, IfOk}
 use Rattle.std.specs.Prelude.{slice_get, reverse, ◌↔◌}
 use Rattle.std.specs.Option.{option_map}
 use Rattle.std.proofs.lemmas.Bool.{false≢true, false_from_ne_true, and_left, and_right, and_parts}
 use Rattle.std.proofs.lemmas.Bool.Decides.{same_from_decides}
+use Rattle.std.proofs.lemmas.Option.{same_Some}
 use Rattle.px_base.specs.declared.head.Head.{Head}
 use Rattle.px_base.specs.declared.head.Head.TheVariants.{Def, Wle, Weq, FnVar}
+use Rattle.px_base.specs.PropSets.{set_of}
+use Rattle.px_base.specs.declared.prop.Prop.TheVariants.{Comm, Assoc, Idem}
+use Rattle.px_base.specs.declared.raw.RawFun.{RawFun}
 use Rattle.px_base.specs.declared.raw.RawReplica.{RawReplica}
 use Rattle.px_base.specs.declared.limits.TheConstants.{TYPE_NODES, TYPE_DEPTH}
 use Rattle.px_terms.specs.declared.types.Ty.{Ty}
@@ -166,3 +170,142 @@ over_is_other T whole within small over tells =
 pub made_is_same : (T made whole : Ty) (r : Bool) → made ≡ T → (IsTrue r ↔ (made ≡ whole)) → r ≡ same T whole
 made_is_same T made whole r is tells =
     same_from_decides r (same T whole) (λ e. sym is ∙ tells.0 e, λ e. tells.1 (is ∙ e)) (decides_same T whole)
+
+-- two items
+pub two_items : {X : Type 0} (xs looked : List X) (a b : X) → looked ≡ xs → 2 ≤ length looked → length looked < 3 → a ≡ get_or looked 0 a → b ≡ get_or looked 1 b → xs ≡ a ∷ b ∷ []
+two_items {X} xs looked a b same least most first second = sym same ∙ go looked least most first second
+  where
+    go : (ys : List X) → 2 ≤ length ys → length ys < 3 → a ≡ get_or ys 0 a → b ≡ get_or ys 1 b → ys ≡ a ∷ b ∷ []
+    go [] least most first second = absurd (omega arith)
+    go (x ∷ []) least most first second = absurd (omega arith)
+    go (x ∷ y ∷ []) least most first second = λ i. sym first i ∷ sym second i ∷ []
+    go (x ∷ y ∷ z ∷ zs) least most first second = absurd (omega arith)
+
+none_and : (b : Bool) → false ≡ (b && false)
+none_and true = refl
+none_and false = refl
+
+-- a function that takes fewer or more than two values takes no two states
+module _ (f : Ty → Ty) (state : Ty) (gives : Bool) where
+  pub too_few : (params looked : List Ty) → looked ≡ params → length looked < 2 → false ≡ (same_all (map f params) (state ∷ state ∷ []) && gives)
+  unfolding same_all
+  too_few [] looked e few = refl
+  too_few (a ∷ []) looked e few = ap (λ (b : Bool). b && gives) (none_and (same (f a) state))
+  too_few (a ∷ b ∷ rest) looked e few =
+      let h : length looked ≡ length (a ∷ b ∷ rest) = ap (λ (xs : List Ty). length xs) e in
+      absurd (omega arith)
+
+  pub too_many : (params looked : List Ty) → looked ≡ params → 3 ≤ length looked → false ≡ (same_all (map f params) (state ∷ state ∷ []) && gives)
+  unfolding same_all
+  too_many [] looked e many =
+      let h : length looked ≡ 0 = ap (λ (xs : List Ty). length xs) e in
+      absurd (omega arith)
+  too_many (a ∷ []) looked e many =
+      let h : length looked ≡ 1 = ap (λ (xs : List Ty). length xs) e in
+      absurd (omega arith)
+  too_many (a ∷ b ∷ []) looked e many =
+      let h : length looked ≡ 2 = ap (λ (xs : List Ty). length xs) e in
+      absurd (omega arith)
+  too_many (a ∷ b ∷ c ∷ rest) looked e many =
+      ap (λ (x : Bool). x && gives) (none_and (same (f a) state) ∙ ap (λ (x : Bool). same (f a) state && x) (none_and (same (f b) state)))
+
+  module _ (params : List Ty) (a b : Ty) (two : params ≡ a ∷ b ∷ []) where
+    both_is : (x y : Bool) → x ≡ same (f a) state → y ≡ same (f b) state → ((x && (y && true)) && gives) ≡ (same_all (map f params) (state ∷ state ∷ []) && gives)
+    unfolding same_all
+    both_is x y e g = (λ i. (e i && (g i && true)) && gives) ∙ ap (λ (xs : List Ty). same_all (map f xs) (state ∷ state ∷ []) && gives) (sym two)
+
+    pub not_first : (x : Bool) → x ≡ same (f a) state → x ≡ false → false ≡ (same_all (map f params) (state ∷ state ∷ []) && gives)
+    not_first x e fails = ap (λ (z : Bool). (z && (same (f b) state && true)) && gives) (sym fails) ∙ both_is x (same (f b) state) e refl
+
+    pub not_second : (x y : Bool) → x ≡ same (f a) state → x ≡ true → y ≡ same (f b) state → y ≡ false → false ≡ (same_all (map f params) (state ∷ state ∷ []) && gives)
+    not_second x y e holds g fails = (λ i. (sym holds i && (sym fails i && true)) && gives) ∙ both_is x y e g
+
+    pub as_third : (x y : Bool) → x ≡ same (f a) state → x ≡ true → y ≡ same (f b) state → y ≡ true → gives ≡ (same_all (map f params) (state ∷ state ∷ []) && gives)
+    as_third x y e holds g also = (λ i. (sym holds i && (sym also i && true)) && gives) ∙ both_is x y e g
+
+-- what is called is no definition
+abbrev pub IsOther : Head → Type 0
+IsOther h = (h ≡ Wle) ⊎ ((h ≡ Weq) ⊎ ((i : ℕ) × (h ≡ FnVar i)))
+
+-- what is called, by its kind
+module _ (E : Env) (h : Head) (types : List Ty) (s : Signature) (is : signature_of E h types ≡ Some s) where
+  definition_is : (n : ℕ) (D : definition.Def) → h ≡ Def n → Some D ≡ slice_get E.program.defs n → s ≡ record { takes = map (fn_type_instance types) D.funs; params = tys_instance types D.params; result = ty_instance types D.result }
+  unfolding signature_of
+  definition_is n D e at =
+      let found : Some s ≡ Some (record { takes = map (fn_type_instance types) D.funs; params = tys_instance types D.params; result = ty_instance types D.result }) =
+        sym is
+        ∙ ap (λ (k : Head). signature_of E k types) e
+        ∙ ap (option_map (λ (C : definition.Def). record { takes = map (fn_type_instance types) C.funs; params = tys_instance types C.params; result = ty_instance types C.result })) (sym at) in
+      cc
+
+  no_definition : (n : ℕ) → h ≡ Def n → None ≡ slice_get E.program.defs n → ⊥
+  unfolding signature_of
+  no_definition n e at =
+      let found : Some s ≡ None =
+        sym is
+        ∙ ap (λ (k : Head). signature_of E k types) e
+        ∙ ap (option_map (λ (C : definition.Def). record { takes = map (fn_type_instance types) C.funs; params = tys_instance types C.params; result = ty_instance types C.result })) (sym at) in
+      cc
+
+  -- the functions that it is given
+  pub given_definition : (n : ℕ) (D : definition.Def) (raws : List RawFun) (r : Result (List Fun) TypeEnd) → h ≡ Def n → Some D ≡ slice_get E.program.defs n → Answers (arguments_found E raws (map (fn_type_instance types) D.funs)) r → Answers (arguments_found E raws s.takes) r
+  given_definition n D raws r e at answers =
+      subst (λ (takes : List FnType). Answers (arguments_found E raws takes) r) (sym (ap (λ (t : Signature). t.takes) (definition_is n D e at))) answers
+
+  pub given_nothing : (n : ℕ) {R : Type 0} → h ≡ Def n → None ≡ slice_get E.program.defs n → R
+  given_nothing n e at = absurd (no_definition n e at)
+
+  variable_takes : (o : Option FnType) → option_map (λ (F : FnType). record { takes = []; params = F.params; result = F.result }) o ≡ Some s → s.takes ≡ []
+  variable_takes None e = absurd cc
+  variable_takes (Some F) e = ap (λ (t : Signature). t.takes) (same_Some s (record { takes = []; params = F.params; result = F.result }) (sym e))
+
+  takes_nothing : IsOther h → s.takes ≡ []
+  unfolding signature_of
+  takes_nothing (inl e) = ap (λ (t : Signature). t.takes) (same_Some s (record { takes = []; params = type.Word ∷ type.Word ∷ []; result = bool_type }) (sym is ∙ ap (λ (k : Head). signature_of E k types) e))
+  takes_nothing (inr (inl e)) = ap (λ (t : Signature). t.takes) (same_Some s (record { takes = []; params = type.Word ∷ type.Word ∷ []; result = bool_type }) (sym is ∙ ap (λ (k : Head). signature_of E k types) e))
+  takes_nothing (inr (inr (i, e))) = variable_takes (slice_get E.context.funs i) (sym (ap (λ (k : Head). signature_of E k types) e) ∙ is)
+
+  pub given_other : (none : List FnType) (raws : List RawFun) (r : Result (List Fun) TypeEnd) → IsOther h → none ≡ [] → Answers (arguments_found E raws (map (fn_type_instance types) none)) r → Answers (arguments_found E raws s.takes) r
+  given_other none raws r other empty answers =
+      subst (λ (takes : List FnType). Answers (arguments_found E raws takes) r) (ap (map (fn_type_instance types)) empty ∙ sym (takes_nothing other)) answers
+
+  compares : s ≡ record { takes = []; params = type.Word ∷ type.Word ∷ []; result = bool_type } → (state : Ty) → false ≡ is_joining E.program h s state
+  unfolding is_joining
+  compares e state =
+      words_no_join state (has_wanted (replica_env E.program) h (set_of (Comm ∷ Assoc ∷ Idem ∷ [])))
+      ∙ ap (λ (t : Signature). (same_all t.params (state ∷ state ∷ []) && same t.result state) && has_wanted (replica_env E.program) h (set_of (Comm ∷ Assoc ∷ Idem ∷ []))) (sym e)
+
+  pub other_joins_nothing : E ≡ replica_env E.program → IsOther h → (state : Ty) → false ≡ is_joining E.program h s state
+  unfolding signature_of
+  other_joins_nothing alone (inl e) state = compares (same_Some s (record { takes = []; params = type.Word ∷ type.Word ∷ []; result = bool_type }) (sym is ∙ ap (λ (k : Head). signature_of E k types) e)) state
+  other_joins_nothing alone (inr (inl e)) state = compares (same_Some s (record { takes = []; params = type.Word ∷ type.Word ∷ []; result = bool_type }) (sym is ∙ ap (λ (k : Head). signature_of E k types) e)) state
+  other_joins_nothing alone (inr (inr (i, e))) state =
+      let found : Some s ≡ None = sym is ∙ ap (λ (k : Head). signature_of E k types) e ∙ ap (λ (F : Env). signature_of F (FnVar i) types) alone in
+      absurd cc
+
+  -- whether it joins states
+  module _ (alone : E ≡ replica_env E.program) (state : Ty) (joins : Bool) where
+    joining_is : (n : ℕ) (D : definition.Def) (known : Bool) → h ≡ Def n → Some D ≡ slice_get E.program.defs n → joins ≡ (same_all (tys_instance types D.params) (state ∷ state ∷ []) && same (ty_instance types D.result) state) → known ≡ has_wanted E h (set_of (Comm ∷ Assoc ∷ Idem ∷ [])) → (joins && known) ≡ is_joining E.program h s state
+    unfolding is_joining
+    joining_is n D known e at says knows =
+        (λ i. says i && knows i)
+        ∙ ap (λ (F : Env). (same_all (tys_instance types D.params) (state ∷ state ∷ []) && same (ty_instance types D.result) state) && has_wanted F h (set_of (Comm ∷ Assoc ∷ Idem ∷ []))) alone
+        ∙ ap (λ (t : Signature). (same_all t.params (state ∷ state ∷ []) && same t.result state) && has_wanted (replica_env E.program) h (set_of (Comm ∷ Assoc ∷ Idem ∷ []))) (sym (definition_is n D e at))
+
+    pub joining : (n : ℕ) (D : definition.Def) (known : Bool) → h ≡ Def n → Some D ≡ slice_get E.program.defs n → joins ≡ (same_all (tys_instance types D.params) (state ∷ state ∷ []) && same (ty_instance types D.result) state) → known ≡ has_wanted E (Def n) (set_of (Comm ∷ Assoc ∷ Idem ∷ [])) → joins ≡ true → known ≡ is_joining E.program h s state
+    joining n D known e at says knows holds =
+        ap (λ (b : Bool). b && known) (sym holds)
+        ∙ joining_is n D known e at says (knows ∙ ap (λ (k : Head). has_wanted E k (set_of (Comm ∷ Assoc ∷ Idem ∷ []))) (sym e))
+
+    pub not_joining : (n : ℕ) (D : definition.Def) → h ≡ Def n → Some D ≡ slice_get E.program.defs n → joins ≡ (same_all (tys_instance types D.params) (state ∷ state ∷ []) && same (ty_instance types D.result) state) → joins ≡ false → joins ≡ is_joining E.program h s state
+    not_joining n D e at says fails =
+        fails ∙ ap (λ (b : Bool). b && has_wanted E h (set_of (Comm ∷ Assoc ∷ Idem ∷ []))) (sym fails) ∙ joining_is n D (has_wanted E h (set_of (Comm ∷ Assoc ∷ Idem ∷ []))) e at says refl
+
+pub ok_as : {E : Type 0} (r : Result Bool E) (x y : Bool) → x ≡ y → IfOk r (λ (b : Bool). b ≡ x) → IfOk r (λ (b : Bool). b ≡ y)
+ok_as (Ok b) x y e is = is ∙ e
+ok_as (Err end) x y e is = is
+
+-- so many obligations stand before it
+pub seen_as : (P : Program) (r : RawReplica) (T : Ty) (from : Term) (types : List Ty) (funs : List Fun) (count : ℕ) {out : Result Program Broken} → count ≡ length P.declared → out ≡ Ok (with_replica P (joined P r T from types funs)) → out ≡ Ok (with_replica P (record { state = T; from = from; merge = record { head = r.merge.head; types = types }; funs = funs; seen = count }))
+seen_as P r T from types funs count here e =
+    e ∙ ap (λ (n : ℕ). Ok (with_replica P (record { state = T; from = from; merge = record { head = r.merge.head; types = types }; funs = funs; seen = n }))) (sym here)

@@ -123,6 +123,7 @@ fn type_merge(
 }
 
 /// Whether the merge is there, and is given as many types and functions as it takes. It takes no memory.
+#[tactic(auto, unfolding(crate::specs::NextOutcome::has_merge_counts))]
 fn has_counts(program: &Program, raw: &RawReplica) -> bool
     ensures { result ≡ has_merge_counts program.now raw.now }
 {
@@ -190,10 +191,13 @@ fn joins_states(
     let [first, second] = def.params.as_slice() else {
         return Ok(false);
     };
-    let takes_first = is_instance(alloc, first, types, state)?;
-    let takes_second = is_instance(alloc, second, types, state)?;
-    let gives = is_instance(alloc, &def.result, types, state)?;
-    Ok(takes_first && takes_second && gives)
+    if !is_instance(alloc, first, types, state)? {
+        return Ok(false);
+    }
+    if !is_instance(alloc, second, types, state)? {
+        return Ok(false);
+    }
+    is_instance(alloc, &def.result, types, state)
 }
 
 /// Whether the type with these types put in is this one, which is within the limits. It is made only where it is within them

@@ -1,0 +1,4 @@
+use Rattle.px_types.proofs.said.knows_all.Goals as goal
+
+pub returns : goal.returns
+returns c = ?
