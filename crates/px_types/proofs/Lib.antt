@@ -26,3 +26,4 @@ pub mod FitsExact
 pub mod ListSteps
 pub mod EndSteps
 pub mod FitSteps
+pub mod KindSteps

@@ -160,3 +160,7 @@ all_noted notes looked new def d set raws i same below past is e n p =
 pub notes_declared : (before after : List Declared) (old room new : List PropSet) (def : ℕ) (raws : List RawProp) → AreNotes before old → ((n : ℕ) (p : Prop) → is_noted room n p ≡ is_noted old n p) → after ≡ before ++ obligations_of def raws → ((n : ℕ) (p : Prop) → is_noted new n p ≡ (is_noted room n p || (def == n && is_among (props_of raws) p))) → AreNotes after new
 notes_declared before after old room new def raws notes same e is =
     subst (λ (xs : List Declared). AreNotes xs new) (sym e) (notes_more before room new def raws (notes_same before before old room refl notes same) is)
+
+-- the notes of obligations that are the same
+pub notes_kept : (before after : List Declared) (notes : List PropSet) → after ≡ before → AreNotes before notes → AreNotes after notes
+notes_kept before after notes e are = subst (λ (xs : List Declared). AreNotes xs notes) (sym e) are

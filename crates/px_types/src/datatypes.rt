@@ -35,6 +35,7 @@ pub(crate) fn take_datatype(
     raw: &RawData,
 ) -> Result<(), TypeEnd>
     ensures same { OnErr result (program.new ≡ program.old) }
+    ensures declared { program.new.declared ≡ program.old.declared }
     ensures answers { Takes (datatype_found program.old raw.now) program.new result }
 {
     let cons = type_own(alloc, program, raw)?;
