@@ -27,3 +27,4 @@ pub mod ListSteps
 pub mod EndSteps
 pub mod FitSteps
 pub mod KindSteps
+pub mod OrderSteps
