@@ -14,6 +14,7 @@ mod laws;
 mod lemmas;
 mod lists;
 mod notes;
+mod program_laws;
 mod programs;
 mod replicas;
 mod said;
@@ -21,6 +22,7 @@ mod signatures;
 mod start;
 mod terms;
 mod typed;
+mod typed_laws;
 mod types;
 
 pub use checking::Checking;
@@ -28,6 +30,11 @@ pub use ends::{TypeEnd, TypeKind};
 pub use laws::{
     always_one, arguments_are_found, arguments_break_as_found, never_both, one_fault, one_typing, parts_are_found, parts_break_as_found, terms_are_found, terms_break_as_found, types_are_found, types_break_as_found,
 };
+pub use program_laws::{
+    always_judged, never_typed_and_broken, one_first_fault, one_program, programs_are_found,
+    programs_break_as_found,
+};
 pub use programs::check_types;
 pub use typed::Typed;
+pub use typed_laws::{programs_are_typed, programs_have_numbers};
 pub use types::{type_ty, type_tys};
