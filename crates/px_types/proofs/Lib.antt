@@ -45,3 +45,4 @@ pub mod ProgramsAgree
 pub mod TypedSteps
 pub mod Reached
 pub mod Numbers
+pub mod Judging

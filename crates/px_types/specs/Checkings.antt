@@ -1,11 +1,12 @@
 -- What the calls answer that check the declarations of a program in turn, and what they know of the program so far.
-use Rattle.std.specs.Prelude.{◌≡◌, ◌<◌, ◌^◌, ℕ, Bool, List, [], length, Result, Ok, Err, slice_get}
+use Rattle.std.specs.Prelude.{◌≡◌, ◌⊎◌, ◌<◌, ◌^◌, ℕ, Bool, List, [], length, Result, Ok, Err, slice_get}
 use Rattle.std.specs.List.{list_any}
 use Rattle.px_base.specs.PropSets.{has_prop}
 use Rattle.px_base.specs.declared.prop.Prop.{Prop}
 use Rattle.px_base.specs.declared.prop.PropSet.{PropSet}
 use Rattle.px_base.specs.declared.raw.RawDef.{RawDef}
 use Rattle.px_base.specs.declared.raw.RawReplica.{RawReplica}
+use Rattle.px_base.specs.declared.raw.RawProgram.{RawProgram}
 use Rattle.px_terms.specs.declared.types.Ty.{Ty}
 use Rattle.px_terms.specs.declared.term.Term.{Term}
 use Rattle.px_terms.specs.declared.program.Def.{Def}
@@ -14,11 +15,12 @@ use Rattle.px_terms.specs.declared.program.Program.{Program}
 use Rattle.px_terms.specs.Typing.{in_body}
 use Rattle.px_terms.specs.TypedPrograms.{own_context}
 use Rattle.px_types.specs.declared.ends.TypeEnd.{TypeEnd}
+use Rattle.px_types.specs.declared.ends.TypeEnd.TheVariants.{Fault, NoMemory}
 use Rattle.px_types.specs.declared.ends.TypeKind.TheVariants.{Arity, NotJoin}
 use Rattle.px_types.specs.declared.lemmas.Variables.{Variables}
-use Rattle.px_types.specs.Faults.{Broken, Env}
+use Rattle.px_types.specs.Faults.{Broken, breaks, Env}
 use Rattle.px_types.specs.Answers.{EndsAs}
-use Rattle.px_types.specs.Declarations.{with_definition, with_obligations, obligations_of, with_replica, replica_env}
+use Rattle.px_types.specs.Declarations.{with_definition, with_obligations, obligations_of, with_replica, replica_env, IsFault}
 use Rattle.px_types.specs.Outcomes.{◌>>=◌, needs, there}
 use Rattle.px_types.specs.Outcome.{passes, is_property_of, tys_found, signature_of, arguments_found}
 use Rattle.px_types.specs.NextOutcome.{Heading, has_merge_counts, is_joining}
@@ -67,3 +69,12 @@ merge_rest P r state from = do
   funs ← arguments_found (replica_env P) r.funs s.takes
   _ ← needs (is_joining P r.merge.head s state) NotJoin r.merge.at
   Ok (with_replica P (record { state = state; from = from; merge = record { head = r.merge.head; types = types }; funs = funs; seen = length P.declared }))
+
+-- what an end says of a written program: of a fault that it is the first; of want of memory nothing
+abbrev pub IsEnd : RawProgram → TypeEnd → Type 0
+IsEnd raw (Fault kind at) = IsFault raw (breaks kind at)
+IsEnd raw NoMemory = Unit {0}
+
+-- the answer is this one, or memory ran out
+abbrev pub IsUnlessNoMemory : Result Program TypeEnd → Result Program TypeEnd → Type 0
+IsUnlessNoMemory answer result = (result ≡ answer) ⊎ (result ≡ Err NoMemory)
