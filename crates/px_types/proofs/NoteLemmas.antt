@@ -134,9 +134,9 @@ among_obligations n def p (raw ∷ raws) =
 pub notes_more : (before : List Declared) (old new : List PropSet) (def : ℕ) (raws : List RawProp) → AreNotes before old → ((n : ℕ) (p : Prop) → is_noted new n p ≡ (is_noted old n p || (def == n && is_among (props_of raws) p))) → AreNotes (before ++ obligations_of def raws) new
 notes_more before old new def raws notes is = record {
   are = λ n p.
-    is n p
-    ∙ (λ i. notes.are n p i || sym (among_obligations n def p raws) i)
-    ∙ sym (list_any-append (is_property_of n p) before (obligations_of def raws));
+      is n p
+      ∙ (λ i. notes.are n p i || sym (among_obligations n def p raws) i)
+      ∙ sym (list_any-append (is_property_of n p) before (obligations_of def raws));
 }
 
 -- the notes are others that say the same, and the obligations are the same

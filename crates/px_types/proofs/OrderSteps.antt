@@ -62,11 +62,10 @@ module _ (raw : RawProgram) (fits : IsFitting raw) where
     order_fails end h = stage_fails _ _ _ left_is end h
 
     pub so_far_next : (Q : Program) → next_found raw P here.item ≡ Ok Q → SoFar Q (drop (i + 1) raw.order)
-    so_far_next Q is =
-        (
-          room_next raw fits P Q here.item (drop (i + 1) raw.order) (subst (λ (rest : List Decl). HasRoom raw P rest) here.left so_far.0) is,
-          sym (stage _ _ left_is Q is),
-        )
+    so_far_next Q is = (
+      room_next raw fits P Q here.item (drop (i + 1) raw.order) (subst (λ (rest : List Decl). HasRoom raw P rest) here.left so_far.0) is,
+      sym (stage _ _ left_is Q is),
+    )
 
   pub order_ends : (P : Program) (i : ℕ) → length raw.order ≤ i → SoFar P (drop i raw.order) → along (next_found raw) start raw.order ≡ Ok P
   unfolding along

@@ -163,9 +163,9 @@ words_no_join state known = go (same type.Word state) (same bool_type state) ref
 pub over_is_other : (T whole : Ty) (within : Bool) → IsSmallMet whole → within ≡ false → (IsTrue within ↔ ((ty_size T ≤ TYPE_NODES) × (ty_depth T ≤ TYPE_DEPTH))) → false ≡ same T whole
 over_is_other T whole within small over tells =
     sym (false_from_ne_true (same T whole) (λ e.
-      let is : T ≡ whole = (decides_same T whole).0 e in
-      let fits : within ≡ true = tells.1 (subst (λ (U : Ty). (ty_size U ≤ TYPE_NODES) × (ty_depth U ≤ TYPE_DEPTH)) (sym is) (small.nodes, small.depth)) in
-      false≢true (sym over ∙ fits)))
+    let is : T ≡ whole = (decides_same T whole).0 e in
+    let fits : within ≡ true = tells.1 (subst (λ (U : Ty). (ty_size U ≤ TYPE_NODES) × (ty_depth U ≤ TYPE_DEPTH)) (sym is) (small.nodes, small.depth)) in
+    false≢true (sym over ∙ fits)))
 
 pub made_is_same : (T made whole : Ty) (r : Bool) → made ≡ T → (IsTrue r ↔ (made ≡ whole)) → r ≡ same T whole
 made_is_same T made whole r is tells =
@@ -233,18 +233,18 @@ module _ (E : Env) (h : Head) (types : List Ty) (s : Signature) (is : signature_
   unfolding signature_of
   definition_is n D e at =
       let found : Some s ≡ Some (record { takes = map (fn_type_instance types) D.funs; params = tys_instance types D.params; result = ty_instance types D.result }) =
-        sym is
-        ∙ ap (λ (k : Head). signature_of E k types) e
-        ∙ ap (option_map (λ (C : definition.Def). record { takes = map (fn_type_instance types) C.funs; params = tys_instance types C.params; result = ty_instance types C.result })) (sym at) in
+      sym is
+      ∙ ap (λ (k : Head). signature_of E k types) e
+      ∙ ap (option_map (λ (C : definition.Def). record { takes = map (fn_type_instance types) C.funs; params = tys_instance types C.params; result = ty_instance types C.result })) (sym at) in
       cc
 
   no_definition : (n : ℕ) → h ≡ Def n → None ≡ slice_get E.program.defs n → ⊥
   unfolding signature_of
   no_definition n e at =
       let found : Some s ≡ None =
-        sym is
-        ∙ ap (λ (k : Head). signature_of E k types) e
-        ∙ ap (option_map (λ (C : definition.Def). record { takes = map (fn_type_instance types) C.funs; params = tys_instance types C.params; result = ty_instance types C.result })) (sym at) in
+      sym is
+      ∙ ap (λ (k : Head). signature_of E k types) e
+      ∙ ap (option_map (λ (C : definition.Def). record { takes = map (fn_type_instance types) C.funs; params = tys_instance types C.params; result = ty_instance types C.result })) (sym at) in
       cc
 
   -- the functions that it is given

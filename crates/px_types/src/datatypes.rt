@@ -48,11 +48,7 @@ pub(crate) fn take_datatype(
 
 /// The constructors of the next datatype, which may name it, or their first fault. The datatype stands in the program
 /// meanwhile, without constructors. It takes memory.
-fn type_own(
-    alloc: Global,
-    program: &mut Program,
-    raw: &RawData,
-) -> Result<Items<ConDef>, TypeEnd>
+fn type_own(alloc: Global, program: &mut Program, raw: &RawData) -> Result<Items<ConDef>, TypeEnd>
     ensures same { program.new ≡ program.old }
     ensures answers { Answers (each (constructor_found (with_datatype program.old (without_constructors raw.now)) raw.now.tparams) raw.now.cons) result }
 {
@@ -78,12 +74,7 @@ fn type_cons(alloc: Global, program: &Program, raw: &RawData) -> Result<Items<Co
 
 /// A constructor from a written one, or its first fault. It takes memory.
 #[tactic(auto, unfolding(crate::specs::NextOutcome::constructor_found, crate::specs::Outcomes::onward))]
-fn type_con(
-    alloc: Global,
-    program: &Program,
-    tparams: u32,
-    raw: &RawCon,
-) -> Result<ConDef, TypeEnd>
+fn type_con(alloc: Global, program: &Program, tparams: u32, raw: &RawCon) -> Result<ConDef, TypeEnd>
     ensures { Answers (constructor_found program.now tparams raw.now) result }
 {
     Ok(ConDef {

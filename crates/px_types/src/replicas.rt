@@ -32,11 +32,7 @@ const JOINING: PropSet = PropSet {
 
 /// Nothing, where the next replica's state is a right type; else its first fault. It takes memory.
 #[tactic(auto, unfolding(crate::specs::NextOutcome::checked, crate::specs::NextOutcome::state_found, crate::specs::Outcomes::onward))]
-pub(crate) fn check_state(
-    alloc: Global,
-    program: &Program,
-    raw: &RawReplica,
-) -> Result<(), TypeEnd>
+pub(crate) fn check_state(alloc: Global, program: &Program, raw: &RawReplica) -> Result<(), TypeEnd>
     ensures { Answers (checked (state_found program.now raw.now)) result }
 {
     type_ty(alloc, program, 0, &raw.state)?;
@@ -92,12 +88,7 @@ fn type_replica(
 
 /// The replica with this state and first value, or the first fault of its merge: its counts, its types, its functions, and
 /// that it joins. It takes memory.
-fn type_merge(
-    env: &Env<'_>,
-    raw: &RawReplica,
-    state: Ty,
-    from: Term,
-) -> Result<ReplicaDef, TypeEnd>
+fn type_merge(env: &Env<'_>, raw: &RawReplica, state: Ty, from: Term) -> Result<ReplicaDef, TypeEnd>
     requires few { length env.now.program.now.declared < 2 ^ 32 }
     requires stands { env_of env.now ≡ replica_env env.now.program.now }
     requires small { IsSmallMet state }
@@ -156,12 +147,7 @@ fn type_given(env: &Env<'_>, raw: &RawReplica, types: &Items<Ty>) -> Result<Item
 
 /// Whether what is called takes two states and gives one, at these types, and is known to be commutative, associative and
 /// idempotent. It takes memory.
-fn is_join(
-    env: &Env<'_>,
-    head: Head,
-    types: &Items<Ty>,
-    state: &Ty,
-) -> Result<bool, NoMemory>
+fn is_join(env: &Env<'_>, head: Head, types: &Items<Ty>, state: &Ty) -> Result<bool, NoMemory>
     requires stands { env_of env.now ≡ replica_env env.now.program.now }
     requires small { IsSmallMet state.now }
     ensures { (s : Signature) → signature_of (env_of env.now) head types.now ≡ Some s → IfOk result (λ joins. joins ≡ is_joining env.now.program.now head s state.now) }
@@ -179,12 +165,7 @@ fn is_join(
 }
 
 /// Whether the definition takes two states and gives one, at these types. It takes memory.
-fn joins_states(
-    alloc: Global,
-    def: &Def,
-    types: &Items<Ty>,
-    state: &Ty,
-) -> Result<bool, NoMemory>
+fn joins_states(alloc: Global, def: &Def, types: &Items<Ty>, state: &Ty) -> Result<bool, NoMemory>
     requires { IsSmallMet state.now }
     ensures { IfOk result (λ joins. joins ≡ (same_all (tys_instance types.now def.now.params) (state.now ∷ state.now ∷ []) && same (ty_instance types.now def.now.result) state.now)) }
 {
@@ -202,12 +183,7 @@ fn joins_states(
 
 /// Whether the type with these types put in is this one, which is within the limits. It is made only where it is within them
 /// too. It takes memory.
-fn is_instance(
-    alloc: Global,
-    ty: &Ty,
-    types: &Items<Ty>,
-    whole: &Ty,
-) -> Result<bool, NoMemory>
+fn is_instance(alloc: Global, ty: &Ty, types: &Items<Ty>, whole: &Ty) -> Result<bool, NoMemory>
     requires { IsSmallMet whole.now }
     ensures { IfOk result (λ is. is ≡ same (ty_instance types.now ty.now) whole.now) }
 {

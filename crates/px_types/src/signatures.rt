@@ -46,11 +46,7 @@ pub(crate) fn type_fn_types(
 }
 
 /// The types of the next definition's signature, with a literal for its body, or their first fault. It takes memory.
-pub(crate) fn type_heading(
-    alloc: Global,
-    program: &Program,
-    raw: &RawDef,
-) -> Result<Def, TypeEnd>
+pub(crate) fn type_heading(alloc: Global, program: &Program, raw: &RawDef) -> Result<Def, TypeEnd>
     requires { length program.now.declared < 2 ^ 32 }
     ensures { Answers (heading_found program.now raw.now) result }
 {

@@ -11,7 +11,11 @@ use px_terms::{RawTerm, Term, Ty};
 use sqlite_items::Items;
 
 /// Stub.
-pub(crate) fn type_term(env: &Env<'_>, raw: &RawTerm, bound: &mut Items<Ty>) -> Result<Typed, TypeEnd>
+pub(crate) fn type_term(
+    env: &Env<'_>,
+    raw: &RawTerm,
+    bound: &mut Items<Ty>,
+) -> Result<Typed, TypeEnd>
     ensures answers { Answers (term_found (env_of env.now) raw.now (reverse bound.old)) result }
     ensures bound { OnOk result (bound.new ≡ bound.old) }
 {
