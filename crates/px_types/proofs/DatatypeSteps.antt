@@ -15,7 +15,8 @@ use Rattle.px_types.specs.NextOutcome.{constructor_found, datatype_found, checke
 use Rattle.px_types.proofs.Stages.{stage, stage_fails}
 
 -- a datatype that is put at the end, and taken off again
-pub datatype_back : (P : Program) (all after : List DataDef) (D last : DataDef) → all ≡ P.datatypes ++ D ∷ [] → all ≡ after ++ last ∷ [] → record P { datatypes = after } ≡ P
+pub datatype_back : (P : Program) (all after : List DataDef) (D last : DataDef) → all ≡ P.datatypes ++ D ∷ [] → all ≡ after ++ last ∷ [] →
+    record P { datatypes = after } ≡ P
 datatype_back P all after D last e f =
     ap (λ (xs : List DataDef). record P { datatypes = xs }) (sym (same_from_push P.datatypes after D last (sym e ∙ f)).0)
 
@@ -24,9 +25,12 @@ module _ (P : Program) (d : RawData) where
   abbrev pub own_found : Result (List ConDef) Broken
   own_found = each (constructor_found (with_datatype P (without_constructors d)) d.tparams) d.cons
 
-  pub own_answers : (all : List DataDef) (none : List ConDef) (r : Result (List ConDef) TypeEnd) → none ≡ [] → all ≡ P.datatypes ++ record { tparams = d.tparams; cons = none } ∷ [] → Answers (each (constructor_found (record P { datatypes = all }) d.tparams) d.cons) r → Answers own_found r
+  pub own_answers : (all : List DataDef) (none : List ConDef) (r : Result (List ConDef) TypeEnd) → none ≡ [] →
+      all ≡ P.datatypes ++ record { tparams = d.tparams; cons = none } ∷ [] →
+      Answers (each (constructor_found (record P { datatypes = all }) d.tparams) d.cons) r → Answers own_found r
   own_answers all none r empty pushed h =
-      let e : all ≡ P.datatypes ++ without_constructors d ∷ [] = pushed ∙ ap (λ (cons : List ConDef). P.datatypes ++ record { tparams = d.tparams; cons = cons } ∷ []) empty in
+      let e : all ≡ P.datatypes ++ without_constructors d ∷ [] = pushed ∙ ap (λ (cons : List ConDef). P.datatypes ++ record { tparams = d.tparams; cons = cons }
+          ∷ []) empty in
       subst (λ (xs : List DataDef). Answers (each (constructor_found (record P { datatypes = xs }) d.tparams) d.cons) r) e h
 
   whole_is : datatype_found P d ≡ onward own_found (λ (cons : List ConDef). Ok (with_datatype P (record { tparams = d.tparams; cons = cons })))
@@ -50,6 +54,8 @@ module _ (P : Program) (d : RawData) where
   check_ok cons is = stage _ _ checked_is _ (datatype_ok cons is)
 
 -- the datatype stands at the end of a program that is as before
-pub took_datatype : (P : Program) (d : RawData) (Q : Program) (all : List DataDef) (cons : List ConDef) → own_found P d ≡ Ok cons → Q ≡ P → all ≡ Q.datatypes ++ record { tparams = d.tparams; cons = cons } ∷ [] → datatype_found P d ≡ Ok (record Q { datatypes = all })
+pub took_datatype : (P : Program) (d : RawData) (Q : Program) (all : List DataDef) (cons : List ConDef) → own_found P d ≡ Ok cons → Q ≡ P →
+    all ≡ Q.datatypes ++ record { tparams = d.tparams; cons = cons } ∷ [] → datatype_found P d ≡ Ok (record Q { datatypes = all })
 took_datatype P d Q all cons is same pushed =
-    datatype_ok P d cons is ∙ ap Ok (λ i. record (sym same i) { datatypes = (ap (λ (R : Program). R.datatypes ++ record { tparams = d.tparams; cons = cons } ∷ []) (sym same) ∙ sym pushed) i })
+    datatype_ok P d cons is ∙ ap Ok (λ i. record (sym same i) { datatypes = (ap (λ (R : Program). R.datatypes ++ record { tparams = d.tparams; cons = cons } ∷
+        []) (sym same) ∙ sym pushed) i })

@@ -27,8 +27,10 @@ module _ (P : Program) (notes : List PropSet) (are : AreNotes P.declared notes) 
       are.are n p ∙ ap (λ (xs : List Declared). list_any (is_property_of n p) xs) (sym (take_all count P.declared (omega arith)))
 
   -- in the body of the definition that stands last, and behind them
-  pub knows_in_body : (defs : List definition.Def) (D : definition.Def) (number : ℕ) → defs ≡ P.defs ++ D ∷ [] → number ≡ length P.defs → D.seen ≡ length P.declared → Knows (record P { defs = defs }) (in_body number) notes
+  pub knows_in_body : (defs : List definition.Def) (D : definition.Def) (number : ℕ) → defs ≡ P.defs ++ D ∷ [] → number ≡ length P.defs →
+      D.seen ≡ length P.declared → Knows (record P { defs = defs }) (in_body number) notes
   knows_in_body defs D number e f seen n p =
       are.are n p
       ∙ ap (λ (xs : List Declared). list_any (is_property_of n p) xs) (sym (take_all D.seen P.declared (omega arith)))
-      ∙ ap (λ (o : Option definition.Def). list_any (is_property_of n p) (elim o as (λ _. List Declared) [ None ↦ [] | Some E ↦ take E.seen P.declared ])) (sym (last_of P.defs defs D number e f))
+      ∙ ap (λ (o : Option definition.Def). list_any (is_property_of n p) (elim o as (λ _. List Declared) [ None ↦ [] | Some E ↦ take E.seen P.declared ]))
+          (sym (last_of P.defs defs D number e f))

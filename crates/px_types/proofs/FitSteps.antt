@@ -14,7 +14,9 @@ use Rattle.px_types.specs.Outcomes.{needs}
 use Rattle.px_types.specs.NextOutcome.{fits, prop_found}
 use Rattle.px_types.proofs.FitsExact.{decides_fits}
 
-pub prop_answers : (P : Program) (funs : List FnType) (h : Head) (raw : RawProp) (fit : Bool) (r : Result (Unit {0}) TypeEnd) → (IsTrue fit ↔ Fits P funs h raw.prop) → Answers (needs fit PropertyShape raw.at) r → Answers (prop_found P funs h raw) r
+pub prop_answers : (P : Program) (funs : List FnType) (h : Head) (raw : RawProp) (fit : Bool) (r : Result (Unit {0}) TypeEnd) →
+    (IsTrue fit ↔ Fits P funs h raw.prop) → Answers (needs fit PropertyShape raw.at) r → Answers (prop_found P funs h raw) r
 unfolding prop_found
 prop_answers P funs h raw fit r tells answers =
-    subst (λ (b : Bool). Answers (needs b PropertyShape raw.at) r) (same_from_decides fit (fits P funs h raw.prop) (tells.0, tells.1) (decides_fits P funs h raw.prop)) answers
+    subst (λ (b : Bool). Answers (needs b PropertyShape raw.at) r) (same_from_decides fit (fits P funs h raw.prop) (tells.0, tells.1)
+        (decides_fits P funs h raw.prop)) answers

@@ -48,7 +48,8 @@ module _ (raw : RawProgram) (fits : IsFitting raw) where
       absurd cc
   each_program_of (Err NoMemory) e P is = inr refl
 
-  pub each_fault_of : (r : Result Program TypeEnd) → Answers (program_found raw) r → (fault : Broken) → IsFault raw fault → IsUnlessNoMemory (Err (Fault fault.kind fault.at)) r
+  pub each_fault_of : (r : Result Program TypeEnd) → Answers (program_found raw) r → (fault : Broken) → IsFault raw fault →
+      IsUnlessNoMemory (Err (Fault fault.kind fault.at)) r
   each_fault_of (Ok P) e fault br =
       let clash : ◌≡◌ {A = Result Program Broken} (Ok P) (Err fault) = sym e ∙ (exact_program raw fits).err fault br in
       absurd cc

@@ -24,7 +24,8 @@ module _ (raw : RawProgram) (P : Program) (d : Decl) where
   pub next_fails : (end : TypeEnd) → EndsAs (types_found raw P d) end → EndsAs (next_found raw P d) end
   next_fails end h = stage_fails _ _ _ next_is end h
 
-  pub next_takes : (done : Unit {0}) (Q new : Program) (r : Result (Unit {0}) TypeEnd) → types_found raw P d ≡ Ok done → Q ≡ P → Takes (terms_found raw Q d) new r → Takes (next_found raw P d) new r
+  pub next_takes : (done : Unit {0}) (Q new : Program) (r : Result (Unit {0}) TypeEnd) → types_found raw P d ≡ Ok done → Q ≡ P →
+      Takes (terms_found raw Q d) new r → Takes (next_found raw P d) new r
   next_takes done Q new r is same h =
       subst (λ (o : Result Program Broken). Takes o new r) (ap (λ (R : Program). terms_found raw R d) same ∙ sym (stage _ _ next_is done is)) h
 
@@ -48,9 +49,11 @@ module _ (raw : RawProgram) (fits : IsFitting raw) where
   SoFar P rest = HasRoom raw P rest × (along (next_found raw) P rest ≡ along (next_found raw) start raw.order)
 
   pub so_far_start : (P : Program) → P ≡ start → SoFar P raw.order
-  so_far_start P e = (subst (λ (Q : Program). HasRoom raw Q raw.order) (sym e) (room_start raw fits), ap (λ (Q : Program). along (next_found raw) Q raw.order) e)
+  so_far_start P e =
+      (subst (λ (Q : Program). HasRoom raw Q raw.order) (sym e) (room_start raw fits), ap (λ (Q : Program). along (next_found raw) Q raw.order) e)
 
-  along_is : (P : Program) (d : Decl) (rest : List Decl) → along (next_found raw) P (d ∷ rest) ≡ onward (next_found raw P d) (λ (Q : Program). along (next_found raw) Q rest)
+  along_is : (P : Program) (d : Decl) (rest : List Decl) → along (next_found raw) P (d ∷ rest) ≡ onward (next_found raw P d)
+      (λ (Q : Program). along (next_found raw) Q rest)
   unfolding along
   along_is P d rest = refl
 

@@ -5,4 +5,5 @@ use Rattle.px_types.proofs.Loops.{after}
 use Rattle.px_types.proofs.datatypes.type_cons.Given as goal
 
 abbrev pub invariant-loop-con : goal.invariant-loop-con
-invariant-loop-con l = after l.cons (each (constructor_found l.program l.raw.tparams) (drop l.con-index l.raw.cons)) ≡ each (constructor_found l.program l.raw.tparams) l.raw.cons
+invariant-loop-con l =
+    after l.cons (each (constructor_found l.program l.raw.tparams) (drop l.con-index l.raw.cons)) ≡ each (constructor_found l.program l.raw.tparams) l.raw.cons
