@@ -14,3 +14,10 @@ pub mod SlotLemmas
 pub mod ArmsExact
 pub mod MatchExact
 pub mod AllExact
+pub mod MetSteps
+pub mod TwoLoops
+pub mod HeadSteps
+pub mod SaidSteps
+pub mod ArgumentSteps
+pub mod ArmSteps
+pub mod TermSteps

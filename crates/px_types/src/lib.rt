@@ -3,8 +3,15 @@
 //! (`specs/Written.antt`), and which fault is its first (`specs/Faults.antt`).
 #![tactic(auto)]
 
+mod arguments;
+mod arms;
 mod ends;
+mod env;
+mod heads;
 mod laws;
+mod met;
+mod said;
+mod terms;
 mod typed;
 mod types;
 
