@@ -1,5 +1,5 @@
 -- Types within the limits, as the code tells them.
-use Rattle.std.proofs.Common.{◌≡◌, ◌↔◌, ℕ, zero, suc, ◌+◌, ◌<◌, ◌≤◌, ◌^◌, min, Bool, true, false, ◌&&◌, IsTrue, List, [], ◌∷◌, length, map, get_or, take, refl, sym, ◌∙◌, ap, Decides, arith}
+use Rattle.std.proofs.Common.{◌≡◌, ◌↔◌, ℕ, zero, suc, ◌+◌, ◌-◌, ◌<◌, ◌≤◌, ◌^◌, min, Bool, true, false, ◌&&◌, IsTrue, List, [], ◌∷◌, length, map, get_or, take, refl, sym, ◌∙◌, ap, Decides, arith}
 use Rattle.std.specs.List.{list_all}
 use Rattle.std.proofs.lemmas.Bool.Decides.{same_from_decides, Decides-and, Decides-ltb, Decides-like}
 use Rattle.std.proofs.lemmas.List.{take_all}
