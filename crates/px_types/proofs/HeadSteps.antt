@@ -1,13 +1,14 @@
 -- What is called or passed, as the code tells it.
-use Rattle.std.proofs.Common.{◌≡◌, ◌↔◌, ℕ, zero, suc, ◌+◌, ◌<◌, ◌≤◌, Bool, true, false, IsTrue, List, [], ◌∷◌, ◌++◌, length, map, get_or, take, Option, Some, None, refl, sym, ◌∙◌, ap, subst, Decides, arith, add-one, add-zero, zero-add}
-use Rattle.std.specs.Prelude.{slice_get}
+use Rattle.std.proofs.Common.{◌≡◌, ◌↔◌, ◌⊎◌, inl, inr, ◌==◌, ◌&&◌, ◌||◌, eq-eqb, ℕ, zero, suc, ◌+◌, ◌<◌, ◌≤◌, Bool, true, false, IsTrue, List, [], ◌∷◌, ◌++◌, length, map, get_or, take, Option, Some, None, refl, sym, ◌∙◌, ap, subst, Decides, arith, add-one, add-zero, zero-add}
+use Rattle.std.specs.Prelude.{slice_get, nat_lt}
 use Rattle.std.specs.Option.{option_map}
 use Rattle.std.proofs.Math.Seq.{take-suc}
-use Rattle.std.proofs.lemmas.Bool.{false≢true}
-use Rattle.std.proofs.lemmas.Bool.Decides.{same_from_decides}
+use Rattle.std.proofs.lemmas.Bool.{false≢true, lt-ltb}
+use Rattle.std.proofs.lemmas.Bool.Decides.{nat_tests}
 use Rattle.std.proofs.lemmas.List.{map-append, take_all, length-map}
 use Rattle.px_base.specs.declared.head.Head.{Head}
 use Rattle.px_base.specs.declared.head.Head.TheVariants.{Def, Wle, Weq, FnVar}
+use Rattle.px_base.specs.declared.raw.RawFun.{RawFun}
 use Rattle.px_terms.specs.declared.types.Ty.{Ty, out-Ty, roll-Ty, roll-out-Ty, map-Ty, fold_out-Ty}
 use Rattle.px_terms.specs.declared.types.Ty.TheVariants as type
 use Rattle.px_terms.specs.declared.types.Ty.TheOpen.{Ty-F}
@@ -18,10 +19,10 @@ use Rattle.px_terms.specs.Programs.{bool_type}
 use Rattle.px_types.specs.declared.env.Stand.{Stand}
 use Rattle.px_types.specs.declared.env.Stand.TheVariants.{Body, Behind}
 use Rattle.px_types.specs.declared.heads.BuiltIn.{BuiltIn}
-use Rattle.px_types.specs.Faults.{Env}
+use Rattle.px_types.specs.Faults.{Env, Counts, counts_of}
 use Rattle.px_types.specs.Scopes.{place_of}
 use Rattle.px_types.specs.Envs.{comparing}
-use Rattle.px_types.specs.Outcome.{Signature, signature_of, may_call, may_pass, same_all}
+use Rattle.px_types.specs.Outcome.{Signature, signature_of, may_call, may_pass, same_all, are_own, stands_before, has_argument_count}
 use Rattle.px_types.proofs.Exact.{Every}
 use Rattle.px_types.proofs.Sameness.{ArgsHold, ty_induction, decides_same_all}
 
@@ -79,6 +80,69 @@ module _ (P : Program) (s : Stand) where
   unfolding may_pass
   variable_passed i = elim s as (λ (s : Stand). true ≡ may_pass P (place_of s) (FnVar i)) [ Body n ↦ refl | Behind count ↦ refl ]
 
+  -- a head that is no definition
+  abbrev pub IsOther : Head → Type 0
+  IsOther h = (h ≡ Wle) ⊎ ((h ≡ Weq) ⊎ ((i : ℕ) × (h ≡ FnVar i)))
+
+  pub other_called : (h : Head) (types : List Ty) → IsOther h → true ≡ may_call P (place_of s) h types
+  other_called h types is = elim is [
+    | inl e ↦ rw e (wle_called types)
+    | inr rest ↦ elim rest [ inl e ↦ rw e (weq_called types) | inr v ↦ rw v.1 (variable_called v.0 types) ]
+  ]
+
+  pub other_passed : (h : Head) → IsOther h → true ≡ may_pass P (place_of s) h
+  other_passed h is = elim is [
+    | inl e ↦ rw e wle_passed
+    | inr rest ↦ elim rest [ inl e ↦ rw e weq_passed | inr v ↦ rw v.1 (variable_passed v.0) ]
+  ]
+
+  module _ (h : Head) (m : ℕ) (head : h ≡ Def m) where
+    -- in the body of definition n
+    module _ (n : ℕ) (place : s ≡ Body n) where
+      in_body_is : (types : List Ty) → may_call P (place_of s) h types ≡ (nat_lt m n || (m == n && are_own P n types))
+      unfolding may_call
+      in_body_is types = rw (head, place) refl
+
+      pub earlier_called : (types : List Ty) → m < n → nat_lt m n ≡ may_call P (place_of s) h types
+      earlier_called types below = let e = lt-ltb m n below in e ∙ sym (in_body_is types ∙ ap (λ (b : Bool). b || (m == n && are_own P n types)) e)
+
+      not_earlier : n ≤ m → nat_lt m n ≡ false
+      not_earlier above = grind (arith, nat_tests)
+
+      pub itself_called : (types : List Ty) (own : Bool) → n ≤ m → m ≡ n → own ≡ are_own P n types → own ≡ may_call P (place_of s) h types
+      itself_called types own above is e = e ∙ sym (in_body_is types ∙ rw (not_earlier above, eq-eqb m n is) refl)
+
+      pub later_called : (types : List Ty) → n ≤ m → (m ≡ n → ⊥) → (m == n) ≡ may_call P (place_of s) h types
+      later_called types above other = let e : (m == n) ≡ false = grind (arith, nat_tests) in e ∙ sym (in_body_is types ∙ rw (not_earlier above, e) refl)
+
+      pub body_passed : nat_lt m n ≡ may_pass P (place_of s) h
+      unfolding may_pass
+      body_passed = rw (head, place) refl
+
+    -- behind so many obligations
+    module _ (count : ℕ) (place : s ≡ Behind count) where
+      pub behind_called : (types : List Ty) → stands_before P m count ≡ may_call P (place_of s) h types
+      unfolding may_call
+      behind_called types = rw (head, place) refl
+
+      pub behind_passed : stands_before P m count ≡ may_pass P (place_of s) h
+      unfolding may_pass
+      behind_passed = rw (head, place) refl
+
+-- Whether a function may be passed, and has as many types as it takes.
+module _ (E : Env) (raw : RawFun) (pass : Bool) (pass_is : pass ≡ may_pass E.program E.place raw.head) where
+  pub unpassed : pass ≡ false → false ≡ has_argument_count E raw
+  unfolding has_argument_count
+  unpassed e = sym (rw (sym pass_is ∙ e) refl)
+
+  pub no_counts : pass ≡ true → None ≡ counts_of E raw.head → false ≡ has_argument_count E raw
+  unfolding has_argument_count
+  no_counts e none = sym (rw (sym pass_is ∙ e, ← none) refl)
+
+  pub counted : pass ≡ true → (c : Counts) (n : ℕ) → Some c ≡ counts_of E raw.head → n ≡ length raw.types → (c.types == n) ≡ has_argument_count E raw
+  unfolding has_argument_count
+  counted e c n some long = sym (rw (sym pass_is ∙ e, ← some, long) refl)
+
 -- The type parameters in order.
 numbers_from-last : (s n : ℕ) → numbers_from s (suc n) ≡ numbers_from s n ++ (s + n) ∷ []
 numbers_from-last s zero = ap (λ (k : ℕ). k ∷ []) (sym (add-zero s))
@@ -96,7 +160,7 @@ numbers_length s zero = refl
 numbers_length s (suc n) = ap suc (numbers_length (s + 1) n)
 
 own_length : (n : ℕ) → length (own_types n) ≡ n
-own_length n = length-map {A = ℕ} {B = Ty} ∙ numbers_length 0 n
+own_length n = length-map (numbers_from 0 n) (λ (k : ℕ). type.Var k) ∙ numbers_length 0 n
 
 own_at : (s n i : ℕ) (d : Ty) → i < n → get_or (map (λ (k : ℕ). type.Var k) (numbers_from s n)) i d ≡ type.Var (s + i)
 own_at s zero i d h = absurd (omega arith)

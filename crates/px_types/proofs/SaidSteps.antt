@@ -1,5 +1,5 @@
 -- The properties that are known of a function, as the code tells them.
-use Rattle.std.proofs.Common.{◌≡◌, ◌↔◌, ℕ, ◌+◌, ◌<◌, ◌≤◌, Bool, true, false, not, ◌&&◌, ◌||◌, IsTrue, List, [], ◌∷◌, length, get_or, take, Option, Some, None, refl, sym, ◌∙◌, ap, Decides, arith}
+use Rattle.std.proofs.Common.{◌≡◌, ◌↔◌, ℕ, zero, suc, ◌+◌, ◌<◌, ◌≤◌, Bool, true, false, not, ◌&&◌, ◌||◌, IsTrue, List, [], ◌∷◌, length, get_or, take, Option, Some, None, refl, sym, ◌∙◌, ap, Decides, arith}
 use Rattle.std.specs.Prelude.{slice_get}
 use Rattle.std.specs.List.{list_all}
 use Rattle.std.proofs.lemmas.Bool.Decides.{same_from_decides}
@@ -12,7 +12,8 @@ use Rattle.px_base.specs.declared.prop.PropSet.{PropSet}
 use Rattle.px_terms.specs.Implied.{Closure, HasAtMost, HasEqual}
 use Rattle.px_terms.specs.Typing.{IsSaid}
 use Rattle.px_types.specs.Faults.{Env}
-use Rattle.px_types.specs.Outcome.{is_said, is_implied, has_wanted}
+use Rattle.px_types.specs.Scopes.{Knows}
+use Rattle.px_types.specs.Outcome.{passes, is_said, is_implied, has_wanted}
 use Rattle.px_types.proofs.Known.{decides_said, decides_implied}
 use Rattle.px_types.proofs.MetSteps.{all_fails, all_next, all_end}
 use Rattle.px_props.specs.Sets.{IsSetOf, IsClosure}
@@ -38,6 +39,13 @@ at_most_said E set h p = same_from_decides (has_prop set p) (is_said E Wle p) (h
 
 pub equal_said : (E : Env) (set : PropSet) → IsSetOf set HasEqual → (p : Prop) → has_prop set p ≡ is_said E Weq p
 equal_said E set h p = same_from_decides (has_prop set p) (is_said E Weq p) (h p) (decides_said E Weq p)
+
+-- the sets of definitions
+pub def_said : (E : Env) (known looked : List PropSet) (n : ℕ) (h : Head) (o : Option PropSet) → Knows E.program E.place known → looked ≡ known → h ≡ Def n → o ≡ slice_get looked n → (p : Prop) → passes (λ (set : PropSet). has_prop set p) o ≡ is_said E h p
+def_said E known looked n h o knows same head stands p =
+    ap (passes (λ (set : PropSet). has_prop set p)) (stands ∙ ap (λ (sets : List PropSet). slice_get sets n) same)
+    ∙ knows n p
+    ∙ ap (λ (g : Head). is_said E g p) (sym head)
 
 -- the closure of what is said
 pub implied_is : (E : Env) (h : Head) (said known : PropSet) → ((p : Prop) → has_prop said p ≡ is_said E h p) → IsClosure said known → (p : Prop) → has_prop known p ≡ is_implied (is_said E h) p
@@ -71,12 +79,20 @@ true_of : (b r : Bool) → r ≡ not b → r ≡ false → b ≡ true
 true_of true r e f = refl
 true_of false r e f = cc
 
+same_item : {X : Type 0} (xs : List X) (i : ℕ) (d e : X) → i < length xs → get_or xs i d ≡ get_or xs i e
+same_item [] i d e h = absurd (omega arith)
+same_item (x ∷ xs) zero d e h = refl
+same_item (x ∷ xs) (suc i) d e h = same_item xs i d e (omega arith)
+
 module _ (wanted known : PropSet) where
   abbrev pub within_at : Prop → Bool
   within_at p = not (has_prop wanted p) || has_prop known p
 
-  pub within_fails : (i : ℕ) (r : Bool) → i < length all_props → r ≡ (has_prop wanted (get_or all_props i Comm) && not (has_prop known (get_or all_props i Comm))) → r ≡ true → false ≡ list_all within_at all_props
-  within_fails i r h e t = sym (all_fails within_at all_props i (get_or all_props i Comm) h refl (false_of _ r (e ∙ lacks_is _ _) t))
+  pub within_fails : (i : ℕ) (d : Prop) (r : Bool) → i < length all_props → r ≡ (has_prop wanted (get_or all_props i d) && not (has_prop known (get_or all_props i d))) → r ≡ true → false ≡ list_all within_at all_props
+  within_fails i d r h e t = sym (all_fails within_at all_props i (get_or all_props i d) h (same_item all_props i d _ h) (false_of _ r (e ∙ lacks_is _ _) t))
 
-  pub within_next : (i : ℕ) (r : Bool) → i < length all_props → r ≡ (has_prop wanted (get_or all_props i Comm) && not (has_prop known (get_or all_props i Comm))) → r ≡ false → list_all within_at (take i all_props) ≡ true → list_all within_at (take (i + 1) all_props) ≡ true
-  within_next i r h e f before = all_next within_at all_props i (get_or all_props i Comm) h refl (true_of _ r (e ∙ lacks_is _ _) f) before
+  pub within_next : (i : ℕ) (d : Prop) (r : Bool) → i < length all_props → r ≡ (has_prop wanted (get_or all_props i d) && not (has_prop known (get_or all_props i d))) → r ≡ false → list_all within_at (take i all_props) ≡ true → list_all within_at (take (i + 1) all_props) ≡ true
+  within_next i d r h e f before = all_next within_at all_props i (get_or all_props i d) h (same_item all_props i d _ h) (true_of _ r (e ∙ lacks_is _ _) f) before
+
+  pub within_end : (i : ℕ) → length all_props ≤ i → list_all within_at (take i all_props) ≡ true → true ≡ list_all within_at all_props
+  within_end i h before = sym (all_end within_at all_props i h before)
