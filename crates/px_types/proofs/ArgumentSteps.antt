@@ -1,11 +1,12 @@
 -- Types that are compared, as the code compares them.
-use Rattle.std.proofs.Common.{◌≡◌, ◌↔◌, ℕ, suc, ◌+◌, ◌<◌, ◌≤◌, Bool, true, false, IsTrue, List, [], ◌∷◌, ◌++◌, length, map, get_or, take, refl, sym, ◌∙◌, ap, Decides, arith, add-one}
+use Rattle.std.proofs.Common.{◌≡◌, ◌↔◌, ℕ, suc, ◌+◌, ◌<◌, ◌≤◌, Bool, true, false, IsTrue, List, [], ◌∷◌, ◌++◌, length, map, get_or, take, Result, Ok, Err, refl, sym, ◌∙◌, ap, Decides, arith, add-one}
 use Rattle.std.proofs.Math.Seq.{take-suc}
 use Rattle.std.proofs.lemmas.Bool.{false≢true}
 use Rattle.std.proofs.lemmas.Bool.Decides.{same_from_decides}
 use Rattle.std.proofs.lemmas.List.{get_or-map, take_all, length-map}
 use Rattle.px_terms.specs.declared.types.Ty.{Ty}
 use Rattle.px_terms.specs.declared.types.FnType.{FnType}
+use Rattle.std.specs.Result.{IfOk}
 use Rattle.px_types.specs.Outcome.{Signature, is_alike, same}
 use Rattle.px_types.proofs.Functions.{IsAlike, decides_alike}
 use Rattle.px_types.proofs.Sameness.{decides_same}
@@ -24,11 +25,24 @@ holds p = (λ e. p, λ p. refl)
 pub fails : {P : Type 0} → (P → ⊥) → IsTrue false ↔ P
 fails h = (λ e. absurd (false≢true e), λ p. absurd (h p))
 
+pub not_of : {P : Type 0} (b : Bool) → (IsTrue b ↔ P) → b ≡ false → P → ⊥
+not_of b h e p = false≢true (sym e ∙ h.1 p)
+
+-- a test of two types, where these are known by other names
+pub tells_of : (b : Bool) (made wanted T U : Ty) → made ≡ T → wanted ≡ U → (IsTrue b ↔ (made ≡ wanted)) → IsTrue b ↔ (T ≡ U)
+tells_of b made wanted T U e f h = (λ t. sym e ∙ h.0 t ∙ f, λ same. h.1 (e ∙ same ∙ sym f))
+
+pub mapped_none : {X Y : Type 0} (f : X → Y) (xs : List X) → length (map f xs) ≡ 0 → length xs ≡ 0
+mapped_none f xs e = sym (length-map xs f) ∙ e
+
+pub none_mapped : {X Y : Type 0} (f : X → Y) (xs : List X) → length xs ≡ 0 → length (map f xs) ≡ 0
+none_mapped f xs e = length-map xs f ∙ e
+
 -- Lists that become the same, as far as they were seen.
 module _ (f g : Ty → Ty) (tys others : List Ty) where
   one_more : (h : Ty → Ty) (xs : List Ty) (i : ℕ) (T : Ty) → i < length xs → T ≡ get_or xs i T → take (i + 1) (map h xs) ≡ take i (map h xs) ++ h T ∷ []
   one_more h xs i T below is =
-      let within : i < length (map h xs) = rw (length-map {A = Ty} {B = Ty}) below in
+      let within : i < length (map h xs) = rw (length-map xs h) below in
       let more : take (i + 1) (map h xs) ≡ take i (map h xs) ++ get_or (map h xs) i (h T) ∷ [] = rw add-one (take-suc (map h xs) i (h T) within) in
       more ∙ ap (λ (U : Ty). take i (map h xs) ++ U ∷ []) (get_or-map h xs i T (h T) below ∙ ap h (sym is))
 
@@ -42,12 +56,12 @@ module _ (f g : Ty → Ty) (tys others : List Ty) where
 
   pub alike_end : (i : ℕ) → length tys ≤ i → length others ≤ i → take i (map f tys) ≡ take i (map g others) → map f tys ≡ map g others
   alike_end i h k before =
-      let first : length (map f tys) ≤ i = rw (length-map {A = Ty} {B = Ty}) h in
-      let second : length (map g others) ≤ i = rw (length-map {A = Ty} {B = Ty}) k in
+      let first : length (map f tys) ≤ i = rw (length-map tys f) h in
+      let second : length (map g others) ≤ i = rw (length-map others g) k in
       sym (take_all i (map f tys) first) ∙ before ∙ take_all i (map g others) second
 
   pub alike_long : map f tys ≡ map g others → length tys ≡ length others
-  alike_long all = sym (length-map {A = Ty} {B = Ty}) ∙ ap length all ∙ length-map {A = Ty} {B = Ty}
+  alike_long all = sym (length-map tys f) ∙ ap length all ∙ length-map others g
 
 none_of_length : {X : Type 0} (xs : List X) → length xs ≡ 0 → xs ≡ []
 none_of_length [] e = refl
@@ -63,3 +77,8 @@ module _ (own : Signature) (wanted : FnType) where
 
   pub result_tells : (r : Bool) → length own.takes ≡ 0 → own.params ≡ wanted.params → (IsTrue r ↔ (own.result ≡ wanted.result)) → r ≡ is_alike own wanted
   result_tells r none params h = same_from_decides r (is_alike own wanted) (λ t. record { takes = none_of_length own.takes none; params = params; result = h.0 t }, λ a. h.1 a.result) (decides_alike own wanted)
+
+  -- the same of an answer, where memory may have run out
+  pub answer_tells : {End : Type 0} (r : Result Bool End) → length own.takes ≡ 0 → own.params ≡ wanted.params → IfOk r (λ (b : Bool). IsTrue b ↔ (own.result ≡ wanted.result)) → IfOk r (λ (b : Bool). b ≡ is_alike own wanted)
+  answer_tells (Ok b) none params h = result_tells b none params h
+  answer_tells (Err e) none params h = tt

@@ -1,8 +1,9 @@
 -- What a loop over items, each with the one at its place in another list, has found, and what is still to come.
-use Rattle.std.proofs.Common.{◌≡◌, ℕ, suc, ◌+◌, ◌<◌, ◌≤◌, List, [], ◌∷◌, ◌++◌, length, get_or, drop, map, Option, Some, None, Result, Ok, Err, refl, sym, ◌∙◌, ap, append_assoc, arith, drop-cons, add-one}
+use Rattle.std.proofs.Common.{◌≡◌, ℕ, zero, suc, ◌+◌, ◌<◌, ◌≤◌, List, [], ◌∷◌, ◌++◌, length, get_or, drop, map, Option, Some, None, Result, Ok, Err, refl, sym, ◌∙◌, ap, append_assoc, arith, drop-cons, add-one}
 use Rattle.std.specs.Prelude.{slice_get}
+use Rattle.std.specs.Option.{option_map}
 use Rattle.std.proofs.lemmas.List.{append-nil, drop_all}
-use Rattle.std.proofs.lemmas.Option.{slice_get_within, get_or_from_slice_get, slice_get-get_or}
+use Rattle.std.proofs.lemmas.Option.{slice_get_within, get_or_from_slice_get, slice_get-map}
 use Rattle.px_types.specs.declared.ends.TypeEnd.{TypeEnd}
 use Rattle.px_types.specs.declared.ends.TypeEnd.TheVariants.{Fault, NoMemory}
 use Rattle.px_types.specs.Faults.{Broken, breaks}
@@ -62,6 +63,13 @@ module _ {X Y T : Type 0} (found : X → Y → Result T Broken) (xs looked : Lis
   pub two_short : (i : ℕ) (ys : List T) → slice_get zs i ≡ None → after ys (each_two found (drop i xs) (drop i zs)) ≡ each_two found xs zs → each_two found xs zs ≡ Ok ys
   unfolding onward after
   two_short i ys e before = sym before ∙ rw (drop_all i zs (past zs i e), nothing_more (drop i xs)) (ap Ok (append-nil ys))
+
+-- an item that is looked at, made into another
+pub mapped_at : {X Y : Type 0} (f : X → Y) (xs looked : List X) (i : ℕ) (x : X) → looked ≡ xs → Some x ≡ slice_get looked i → slice_get (map f xs) i ≡ Some (f x)
+mapped_at f xs looked i x same e = slice_get-map f xs i ∙ ap (option_map f) (sym (e ∙ ap (λ (ys : List _). slice_get ys i) same))
+
+pub mapped_past : {X Y : Type 0} (f : X → Y) (xs looked : List X) (i : ℕ) → looked ≡ xs → None ≡ slice_get looked i → slice_get (map f xs) i ≡ None
+mapped_past f xs looked i same e = slice_get-map f xs i ∙ ap (option_map f) (sym (e ∙ ap (λ (ys : List _). slice_get ys i) same))
 
 -- what is found of items that are made of others
 pub each_two_made : {W X Y T : Type 0} (found : X → Y → Result T Broken) (made : W → X) (ws : List W) (zs : List Y) → each_two found (map made ws) zs ≡ each_two (λ (w : W). found (made w)) ws zs
