@@ -1,10 +1,10 @@
 -- The arms of a match, as the code types them.
-use Rattle.std.proofs.Common.{◌≡◌, ◌↔◌, ℕ, zero, suc, ◌+◌, ◌-◌, ◌<◌, ◌≤◌, Bool, true, false, ◌==◌, IsTrue, List, [], ◌∷◌, ◌++◌, length, map, reverse, take, Option, Some, None, Result, Ok, Err, refl, sym, ◌∙◌, ap, append_assoc, arith, add-one}
+use Rattle.std.proofs.Common.{◌≡◌, ◌↔◌, ℕ, zero, suc, ◌+◌, ◌-◌, ◌<◌, ◌≤◌, Bool, true, false, ◌==◌, IsTrue, List, [], ◌∷◌, ◌++◌, length, map, reverse, get_or, take, MatchOption, Option, Some, None, Result, Ok, Err, refl, sym, ◌∙◌, ap, append_assoc, arith, add-one}
 use Rattle.std.specs.Prelude.{slice_get, slice_set, replicate}
 use Rattle.std.specs.Option.{option_map}
-use Rattle.std.proofs.Math.Seq.{take-append_seam}
+use Rattle.std.proofs.Math.Seq.{take-append_seam, take-suc}
 use Rattle.std.proofs.lemmas.Bool.Decides.{same_from_decides}
-use Rattle.std.proofs.lemmas.List.{append-nil, reverse-append, reverse-reverse, length-append, length-take-le, take-take, replicate_more}
+use Rattle.std.proofs.lemmas.List.{append-nil, reverse-append, reverse-reverse, length-append, length-take-le, map-append, take-take, replicate_more}
 use Rattle.std.proofs.lemmas.Option.{slice_get_within}
 use Rattle.px_base.specs.declared.raw.RawArm.{RawArm}
 use Rattle.px_terms.specs.declared.types.Ty.{Ty, out-Ty}
@@ -16,6 +16,7 @@ use Rattle.px_terms.specs.declared.program.Program.{Program}
 use Rattle.px_terms.specs.Types.{tys_instance}
 use Rattle.px_types.specs.declared.ends.TypeEnd.{TypeEnd}
 use Rattle.px_types.specs.declared.ends.TypeEnd.TheVariants.{Fault, NoMemory}
+use Rattle.px_types.specs.declared.ends.TypeKind.{TypeKind}
 use Rattle.px_types.specs.declared.ends.TypeKind.TheVariants.{Mismatch, Arity, ArmRepeated}
 use Rattle.px_types.specs.declared.typed.Typed.{Typed}
 use Rattle.px_types.specs.declared.typed.Slots.{Slots}
@@ -104,6 +105,11 @@ open_within slots k b e t = go (slice_get slots.bodies k) refl (sym e ∙ t)
     go None is h = absurd cc
     go (Some slot) is h = slice_get_within slots.bodies k slot is
 
+pub need_true : (b : Bool) (kind : TypeKind) (at : ℕ) (u : Unit {0}) → needs b kind at ≡ Ok u → b ≡ true
+unfolding needs
+need_true true kind at u e = refl
+need_true false kind at u e = absurd cc
+
 pub agrees_is : (first T : Ty) (b : Bool) → (IsTrue b ↔ (T ≡ first)) → b ≡ agrees (Some first) T
 unfolding agrees
 agrees_is first T b h = same_from_decides b (same T first) h (decides_same T first)
@@ -136,6 +142,18 @@ popped_none first bound i rest e none before =
     let nothing : length (take (length first - i) first) ≡ 0 = ap length (sym before ∙ e) in
     let left : length first - (i + 1) ≡ 0 = omega arith in
     none ∙ rw left refl
+
+-- and so it does whether or not a type was left
+pub popped_any : (first bound rest : List Ty) (i : ℕ) (o : Option Ty) → MatchOption o ((bound ≡ []) × (rest ≡ [])) (λ (last : Ty). bound ≡ rest ++ last ∷ []) → bound ≡ take (length first - i) first → rest ≡ take (length first - (i + 1)) first
+popped_any first bound rest i None h before = popped_none first bound i rest h.0 h.1 before
+popped_any first bound rest i (Some T) h before = popped first bound i T rest h before
+
+-- a stack that grows by the types of a list, as far as they were seen
+pub bound_next : (f : Ty → Ty) (old bound more looked : List Ty) (i : ℕ) (T made : Ty) → i < length looked → T ≡ get_or looked i T → made ≡ f T → more ≡ bound ++ made ∷ [] → bound ≡ old ++ map f (take i looked) → more ≡ old ++ map f (take (i + 1) looked)
+bound_next f old bound more looked i T made h is e pushed before =
+    let longer : take (i + 1) looked ≡ take i looked ++ get_or looked i T ∷ [] = rw add-one (take-suc looked i T h) in
+    let last : map f (take (i + 1) looked) ≡ map f (take i looked) ++ made ∷ [] = ap (map f) longer ∙ map-append f (take i looked) (get_or looked i T ∷ []) ∙ ap (λ (U : Ty). map f (take i looked) ++ U ∷ []) (ap f (sym is) ∙ sym e) in
+    pushed ∙ ap (λ (ts : List Ty). ts ++ made ∷ []) before ∙ append_assoc old (map f (take i looked)) (made ∷ []) ∙ ap (λ (ts : List Ty). old ++ ts) (sym last)
 
 -- so many slots without a body
 pub one_slot_more : {X : Type 0} (n : ℕ) (x : X) (xs ys : List X) → xs ≡ replicate n x → ys ≡ xs ++ x ∷ [] → ys ≡ replicate (n + 1) x

@@ -1,7 +1,8 @@
 -- What a loop over items, each with the one at its place in another list, has found, and what is still to come.
-use Rattle.std.proofs.Common.{◌≡◌, ℕ, zero, suc, ◌+◌, ◌<◌, ◌≤◌, List, [], ◌∷◌, ◌++◌, length, get_or, drop, map, Option, Some, None, Result, Ok, Err, refl, sym, ◌∙◌, ap, append_assoc, arith, drop-cons, add-one}
+use Rattle.std.proofs.Common.{◌≡◌, ℕ, zero, suc, ◌+◌, ◌<◌, ◌≤◌, List, [], ◌∷◌, ◌++◌, length, get_or, drop, map, Option, Some, None, Result, Ok, Err, refl, sym, ◌∙◌, ap, subst, append_assoc, arith, drop-cons, add-one}
 use Rattle.std.specs.Prelude.{slice_get}
 use Rattle.std.specs.Option.{option_map}
+use Rattle.std.specs.Result.{IsErrAnd, MatchResult}
 use Rattle.std.proofs.lemmas.List.{append-nil, drop_all}
 use Rattle.std.proofs.lemmas.Option.{slice_get_within, get_or_from_slice_get, slice_get-map}
 use Rattle.px_types.specs.declared.ends.TypeEnd.{TypeEnd}
@@ -63,6 +64,16 @@ module _ {X Y T : Type 0} (found : X → Y → Result T Broken) (xs looked : Lis
   pub two_short : (i : ℕ) (ys : List T) → slice_get zs i ≡ None → after ys (each_two found (drop i xs) (drop i zs)) ≡ each_two found xs zs → each_two found xs zs ≡ Ok ys
   unfolding onward after
   two_short i ys e before = sym before ∙ rw (drop_all i zs (past zs i e), nothing_more (drop i xs)) (ap Ok (append-nil ys))
+
+-- an end is passed on, whatever the answer would say
+pub ends_in : {X : Type 0} (P : X → Type 0) (E : TypeEnd → Type 0) (r : Result X TypeEnd) (end : TypeEnd) → IsErrAnd r (λ (e : TypeEnd). e ≡ end) → E end → MatchResult r P E
+ends_in P E (Ok x) end same h = absurd same
+ends_in P E (Err e) end same h = subst E (sym same) h
+
+pub same_item : {X : Type 0} (xs : List X) (i : ℕ) (d e : X) → i < length xs → get_or xs i d ≡ get_or xs i e
+same_item [] i d e h = absurd (omega arith)
+same_item (x ∷ xs) zero d e h = refl
+same_item (x ∷ xs) (suc i) d e h = same_item xs i d e (omega arith)
 
 -- an item that is looked at, made into another
 pub mapped_at : {X Y : Type 0} (f : X → Y) (xs looked : List X) (i : ℕ) (x : X) → looked ≡ xs → Some x ≡ slice_get looked i → slice_get (map f xs) i ≡ Some (f x)

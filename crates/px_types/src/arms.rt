@@ -107,7 +107,7 @@ fn variables_met(
 
 /// The constructor of an arm whose pattern is right: as many variables as fields, a constructor of the datatype, which has no
 /// arm yet, and variables of types within the limits. Else its first fault. It takes no memory.
-#[tactic(auto, unfolding(crate::specs::Envs::pattern_found, crate::specs::Outcomes::onward, crate::specs::Outcomes::there))]
+#[tactic(auto, unfolding(crate::specs::Envs::pattern_found, crate::specs::Envs::arm_of, crate::specs::Outcomes::onward, crate::specs::Outcomes::there))]
 pub(crate) fn pattern<'a>(
     env: &Env<'a>,
     arm: &RawArm,
