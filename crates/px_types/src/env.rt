@@ -34,7 +34,7 @@ pub(crate) struct Wanted<'a> {
 
 /// Types with other types put in for their type variables.
 #[derive(Clone, Copy)]
-pub(crate) struct Instances<'a> {
+pub(crate) struct Instances<'a, 'b> {
     pub tys: &'a Items<Ty>,
-    pub types: &'a Items<Ty>,
+    pub types: &'b Items<Ty>,
 }

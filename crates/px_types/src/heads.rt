@@ -88,12 +88,12 @@ pub(crate) fn built_in(alloc: Global) -> Result<BuiltIn, NoMemory>
 
 /// What is called, at these types; nothing where it names what is not there. It takes no memory.
 #[tactic(auto, unfolding(crate::specs::Outcome::signature_of))]
-pub(crate) fn find_called<'a>(
-    env: &Env<'a>,
+pub(crate) fn find_called<'t, 'p: 't>(
+    env: &Env<'p>,
     head: Head,
-    types: &'a Items<Ty>,
-    comparison: &'a BuiltIn,
-) -> Option<Called<'a>>
+    types: &'t Items<Ty>,
+    comparison: &'t BuiltIn,
+) -> Option<Called<'t>>
     requires { comparison.now ≡ comparing }
     ensures { option_map called_in result ≡ signature_of (env_of env.now) head types.now }
 {

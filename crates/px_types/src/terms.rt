@@ -1,5 +1,5 @@
 //! Terms.
-ghost use Rattle.std.specs.Prelude.{◌≡◌, map, reverse, slice_get, OnOk};
+ghost use Rattle.std.specs.Prelude.{◌≡◌, length, map, reverse, slice_get, OnOk};
 ghost use Rattle.std.specs.Option.{option_copied};
 ghost use Rattle.px_types.specs.Answers.{Answers};
 ghost use Rattle.px_types.specs.Envs.{arm_of, chosen_in, env_of, scrutinee_part, tys_of, variable_type_found};
@@ -307,7 +307,7 @@ fn type_arms(
 fn type_parts(
     env: &Env<'_>,
     raws: &Items<RawTerm>,
-    wanted: &Instances<'_>,
+    wanted: &Instances<'_, '_>,
     bound: &mut Items<Ty>,
 ) -> Result<Items<Term>, TypeEnd>
     ensures answers { Answers (parts_found (env_of env.now) (reverse bound.old) raws.now (tys_of wanted.now)) result }
