@@ -22,12 +22,13 @@ use Rattle.px_types.specs.declared.typed.Typed.{Typed}
 use Rattle.px_types.specs.declared.typed.Slots.{Slots}
 use Rattle.px_types.specs.Faults.{Broken, breaks, Env}
 use Rattle.px_types.specs.Answers.{EndsAs}
-use Rattle.px_types.specs.Outcomes.{onward, needs, there, each_two}
+use Rattle.px_types.specs.Outcomes.{onward, needs, there, each_two, along}
 use Rattle.px_types.specs.Outcome.{Part, ArmPart, part_of, term_found, Chosen, chosen_of, pattern_of, is_open, passes, agrees, same, variable_met, arm_found, all_filled}
 use Rattle.px_types.specs.Envs.{arm_of, pattern_found, filled_found}
 use Rattle.px_types.proofs.Sameness.{decides_same}
 use Rattle.px_types.proofs.Stages.{stage, stage_fails}
 use Rattle.px_types.proofs.TermShapes.{part_at}
+use Rattle.px_types.proofs.TwoLoops.{along_made}
 
 -- four stages and then the rest, grouped in two ways
 three : {A B C D T : Type 0} (b : Result B Broken) (c : Result C Broken) (d : Result D Broken) (x : A) (g : A → Result T Broken) → onward (onward b (λ _. onward c (λ _. onward d (λ _. Ok x)))) g ≡ onward b (λ _. onward c (λ _. onward d (λ _. g x)))
@@ -95,6 +96,14 @@ module _ (E : Env) (bound : List Ty) (on : Chosen) (s : Slots) (raw : RawArm) wh
 
       pub arm_found_is : (t : Slots) → after_body found ≡ Ok t → arm_here E bound on s raw ≡ Ok t
       arm_found_is t h = at_end ∙ h
+
+pub arms_here : (E : Env) (bound : List Ty) (on : Chosen) (s : Slots) (arms : List RawArm) → along (arm_found E bound on) s (map (arm_of E) arms) ≡ along (arm_here E bound on) s arms
+unfolding arm_here
+arms_here E bound on s arms = along_made (arm_found E bound on) (arm_of E) s arms
+
+-- the types of a pattern's variables stand before those around it, the innermost first
+pub around : (old now bound more : List Ty) → now ≡ old → bound ≡ now ++ more → reverse bound ≡ reverse more ++ reverse old
+around old now bound more same e = rw (e, same) (reverse-append old more)
 
 -- a constructor that has no arm yet is one of those that have slots
 pub open_within : (slots : Slots) (k : ℕ) (b : Bool) → b ≡ is_open slots k → b ≡ true → k < length slots.bodies
