@@ -27,7 +27,7 @@ use Rattle.px_types.specs.Answers.{EndsAs, Answers}
 use Rattle.px_types.specs.Outcomes.{onward, needs, there, each_two}
 use Rattle.px_types.specs.Outcome.{Part, ArmPart, part_of, term_found, parts_found, part_found, is_met, same, type_of_variable, variable_found, con_found, call_found, match_found}
 use Rattle.px_types.specs.Envs.{arm_of, variable_type_found}
-use Rattle.px_types.proofs.Stages.{stage, stage_fails}
+use Rattle.px_types.proofs.Stages.{stage, stage_fails, passed_on}
 use Rattle.px_types.proofs.TermShapes.{arm_part, layer_found, term_found_is, part_at}
 use Rattle.px_types.proofs.TwoLoops.{each_two_made}
 
@@ -49,6 +49,14 @@ three (Ok x) (Ok y) c g = last (c y)
 pub variable_is : (E : Env) (t : Term) (stands : Option Ty) (types : List RawTy) (at : ℕ) → variable_found E t stands types at ≡ onward (variable_type_found E stands types at) (λ (T : Ty). Ok (record { term = t; ty = T }))
 unfolding variable_found variable_type_found
 variable_is E t stands types at = sym (three (needs (length types == 0) Arity at) (there stands Arity at) (λ (T : Ty). needs (is_met E.place T) Oversize at) (λ (T : Ty). Ok (record { term = t; ty = T })))
+
+-- A variable, whose type is looked up in another way.
+module _ (E : Env) (at : ℕ) (t : Term) (types : List RawTy) (stands o : Option Ty) (same : o ≡ stands) {whole : Result Typed Broken} (is : whole ≡ onward (variable_type_found E stands types at) (λ (T : Ty). Ok (record { term = t; ty = T }))) where
+  pub variable_fails : (r : Result Typed TypeEnd) (end : TypeEnd) → IsErrAnd r (λ (e : TypeEnd). e ≡ end) → EndsAs (variable_type_found E o types at) end → Answers whole r
+  variable_fails r end ended h = passed_on (variable_type_found E stands types at) (λ (T : Ty). Ok (record { term = t; ty = T })) whole is r end ended (subst (λ (x : Option Ty). EndsAs (variable_type_found E x types at) end) same h)
+
+  pub variable_typed : (T : Ty) → variable_type_found E o types at ≡ Ok T → whole ≡ Ok (record { term = t; ty = T })
+  variable_typed T h = stage (variable_type_found E stands types at) (λ (T : Ty). Ok (record { term = t; ty = T })) is T (ap (λ (x : Option Ty). variable_type_found E x types at) (sym same) ∙ h)
 
 -- all data variables are live
 pub live_type : (vars : List Ty) (n : ℕ) → option_and_then (λ (slot : Option Ty). slot) (slice_get (live vars) n) ≡ slice_get vars n
@@ -108,6 +116,12 @@ module _ (E : Env) (raw : RawTerm) (bound : List Ty) where
   pub scrutinee_found : (on : RawTerm) (arms : List RawArm) (found : Typed) → raw.kind ≡ kinds.Match on arms → term_found E on bound ≡ Ok found → term_found E raw bound ≡ match_found E bound raw.at (record { at = on.at; own = λ _. Ok found }) (map (arm_of E) arms)
   unfolding match_found term_found
   scrutinee_found on arms found e h = match_is on arms e ∙ rw (part_at E on, h) refl
+
+  -- and so the answer of the match is this one's, which has a scrutinee and a stack that are the same
+  pub match_answers : (on got : RawTerm) (arms : List RawArm) (found : Typed) (stack first : List Ty) (r : Result Typed TypeEnd) → raw.kind ≡ kinds.Match on arms → term_found E on bound ≡ Ok found → got ≡ on → stack ≡ first → reverse first ≡ bound → Answers (match_found E (reverse stack) raw.at (record { at = got.at; own = λ _. Ok found }) (map (arm_of E) arms)) r → Answers (term_found E raw bound) r
+  match_answers on got arms found stack first r e typed is kept outer h =
+      let other : match_found E (reverse stack) raw.at (record { at = got.at; own = λ _. Ok found }) (map (arm_of E) arms) ≡ match_found E bound raw.at (record { at = on.at; own = λ _. Ok found }) (map (arm_of E) arms) = rw (kept, outer, is) refl in
+      answers_as _ _ r (scrutinee_found on arms found e typed ∙ sym other) h
 
 -- A part is tried for the wanted type's size, is typed, and has that type.
 unfoldable pub part_here : Env → List Ty → RawTerm → Ty → Result Term Broken

@@ -1,6 +1,9 @@
-use Rattle.std.proofs.Common.{◌≡◌, List, Ok, length, map, reverse, refl, sym, ◌∙◌, ap, subst}
+use Rattle.std.proofs.Common.{◌≡◌, List, Ok, length, map, reverse, refl, sym, ◌∙◌, ap, subst, arith}
+use Rattle.std.specs.Prelude.{slice_get}
 use Rattle.std.proofs.lemmas.List.{length-map}
+use Rattle.px_base.specs.declared.raw.RawTerm.{RawTerm}
 use Rattle.px_terms.specs.declared.types.Ty.{Ty}
+use Rattle.px_terms.specs.declared.term.Term.TheVariants as term
 use Rattle.px_terms.specs.Types.{ty_instance, tys_instance}
 use Rattle.px_types.specs.Answers.{EndsAs}
 use Rattle.px_types.specs.Envs.{env_of, tys_of, chosen_in}
@@ -8,7 +11,7 @@ use Rattle.px_types.specs.Outcome.{term_found, no_arms}
 use Rattle.px_types.proofs.Stages.{stage_fails, end_is}
 use Rattle.px_types.proofs.TwoLoops.{two_start, two_next, two_fails, two_end, two_short, mapped_at, mapped_past, along_next, along_fails, along_end}
 use Rattle.px_types.proofs.ArmSteps.{arm_here, arms_here, around, shrinks, pattern_fails, body_fails, disagrees, arm_found_is}
-use Rattle.px_types.proofs.TermSteps.{answers_as, part_here, parts_here, part_unmet, part_untyped, part_other, part_typed}
+use Rattle.px_types.proofs.TermSteps.{answers_as, live_type, variable_fails, variable_typed, free_is, bound_is, literal_is, con_is, call_is, scrutinee_fails, match_answers, part_here, parts_here, part_unmet, part_untyped, part_other, part_typed}
 use Rattle.px_types.proofs.terms.+type_term.Goals as goal
 
 pub type_arms-returns-in_err-con-clause-answers : goal.type_arms-returns-in_err-con-clause-answers
@@ -148,28 +151,49 @@ type_parts-returns-clause-answers t c =
     ∙ two_end (part_here E b) c.args.raws.now c.as_slice-raw-items.result.now (tys_of c.args.wanted.now) c.as_slice-raw-items.ensures c.loop-number.number c.loop-number.terms c.loop-number-test.false c.loop-number.invariant.rest
 
 pub type_term-returns-in_err-ty-in-Free-clause-answers : goal.type_term-returns-in_err-ty-in-Free-clause-answers
-type_term-returns-in_err-ty-in-Free-clause-answers t c = ?
+type_term-returns-in_err-ty-in-Free-clause-answers t c =
+    let n = c.in-Free.number in
+    let stands = c.at-stands.ensures ∙ ap (λ (vars : List Ty). slice_get vars n) c.as_slice.ensures ∙ sym (live_type c.args.env.now.vars.now n) in
+    variable_fails (env_of c.args.env.now) c.args.raw.now.at (term.Free n) c.in-Free.types _ _ stands (free_is (env_of c.args.env.now) c.args.raw.now (reverse c.args.bound.now) n c.in-Free.types c.in-Free.is) c.from_residual.result c.in_err-ty-in-Free.field-0.0 c.from_residual.ensures.1 c.in_err-ty-in-Free.ensures
 
 pub type_term-returns-in_err-ty-in-Bound-clause-answers : goal.type_term-returns-in_err-ty-in-Bound-clause-answers
-type_term-returns-in_err-ty-in-Bound-clause-answers t c = ?
+type_term-returns-in_err-ty-in-Bound-clause-answers t c =
+    let n = c.in-Bound.number in
+    variable_fails (env_of c.args.env.now) c.args.raw.now.at (term.Bound n) c.in-Bound.types _ _ c.nearest.ensures (bound_is (env_of c.args.env.now) c.args.raw.now (reverse c.args.bound.now) n c.in-Bound.types c.in-Bound.is) c.from_residual-in_err-ty-in-Bound.result c.in_err-ty-in-Bound.field-0.0 c.from_residual-in_err-ty-in-Bound.ensures.1 c.in_err-ty-in-Bound.ensures
 
 pub type_term-returns-in_err-found-in-Match-clause-answers : goal.type_term-returns-in_err-found-in-Match-clause-answers
-type_term-returns-in_err-found-in-Match-clause-answers t c = ?
+type_term-returns-in_err-found-in-Match-clause-answers t c =
+    let E = env_of c.args.env.now in
+    let b = reverse c.args.bound.now in
+    let end = c.in_err-found-in-Match.field-0.0 in
+    end_is (term_found E c.args.raw.now b) c.from_residual-in_err-found-in-Match.result end c.from_residual-in_err-found-in-Match.ensures.1
+    (scrutinee_fails E c.args.raw.now b c.in-Match.on c.in-Match.arms end c.in-Match.is
+    (subst (λ (on : RawTerm). EndsAs (term_found E on b) end) c.get-in-Match.ensures c.in_err-found-in-Match.ensures.answers))
 
 pub type_term-returns-in_ok-ty-in-Free-clause-answers : goal.type_term-returns-in_ok-ty-in-Free-clause-answers
-type_term-returns-in_ok-ty-in-Free-clause-answers t c = ?
+type_term-returns-in_ok-ty-in-Free-clause-answers t c =
+    let n = c.in-Free.number in
+    let stands = c.at-stands.ensures ∙ ap (λ (vars : List Ty). slice_get vars n) c.as_slice.ensures ∙ sym (live_type c.args.env.now.vars.now n) in
+    variable_typed (env_of c.args.env.now) c.args.raw.now.at (term.Free n) c.in-Free.types _ _ stands (free_is (env_of c.args.env.now) c.args.raw.now (reverse c.args.bound.now) n c.in-Free.types c.in-Free.is) c.in_ok-ty-in-Free.ty c.in_ok-ty-in-Free.ensures
 
 pub type_term-returns-in_ok-ty-in-Bound-clause-answers : goal.type_term-returns-in_ok-ty-in-Bound-clause-answers
-type_term-returns-in_ok-ty-in-Bound-clause-answers t c = ?
+type_term-returns-in_ok-ty-in-Bound-clause-answers t c =
+    let n = c.in-Bound.number in
+    variable_typed (env_of c.args.env.now) c.args.raw.now.at (term.Bound n) c.in-Bound.types _ _ c.nearest.ensures (bound_is (env_of c.args.env.now) c.args.raw.now (reverse c.args.bound.now) n c.in-Bound.types c.in-Bound.is) c.in_ok-ty-in-Bound.ty c.in_ok-ty-in-Bound.ensures
 
 pub type_term-returns-in-Lit-clause-answers : goal.type_term-returns-in-Lit-clause-answers
-type_term-returns-in-Lit-clause-answers t c = let h = c.in-Lit.is in let k = c.in-Lit.word in ?
+type_term-returns-in-Lit-clause-answers t c = literal_is (env_of c.args.env.now) c.args.raw.now (reverse c.args.bound.now) c.in-Lit.word c.in-Lit.is (omega arith)
 
 pub type_term-returns-in-Con-clause-answers : goal.type_term-returns-in-Con-clause-answers
-type_term-returns-in-Con-clause-answers t c = ?
+type_term-returns-in-Con-clause-answers t c = answers_as _ _ c.type_con.result (con_is (env_of c.args.env.now) c.args.raw.now (reverse c.args.bound.now) c.in-Con.datatype c.in-Con.con c.in-Con.types c.in-Con.fields c.in-Con.is) c.type_con.ensures.answers
 
 pub type_term-returns-in-Call-clause-answers : goal.type_term-returns-in-Call-clause-answers
-type_term-returns-in-Call-clause-answers t c = ?
+type_term-returns-in-Call-clause-answers t c = answers_as _ _ c.type_call.result (call_is (env_of c.args.env.now) c.args.raw.now (reverse c.args.bound.now) c.in-Call.fun c.in-Call.funs c.in-Call.args c.in-Call.is) c.type_call.ensures.answers
 
 pub type_term-returns-in_ok-found-in-Match-clause-answers : goal.type_term-returns-in_ok-found-in-Match-clause-answers
-type_term-returns-in_ok-found-in-Match-clause-answers t c = ?
+type_term-returns-in_ok-found-in-Match-clause-answers t c =
+    let E = env_of c.args.env.now in
+    let b = reverse c.args.bound.now in
+    let found = c.in_ok-found-in-Match.found in
+    let typed = subst (λ (on : RawTerm). term_found E on b ≡ Ok found) c.get-in-Match.ensures c.in_ok-found-in-Match.ensures.answers in
+    match_answers E c.args.raw.now b c.in-Match.on c.get.result.now c.in-Match.arms found c.type_term.new.bound c.args.bound.now c.type_match.result c.in-Match.is typed c.get.ensures c.in_ok-found-in-Match.ensures.bound refl c.type_match.ensures.answers
