@@ -56,8 +56,8 @@ fn same_instance(
 /// and fails only where there is none.
 fn same_instances(
     alloc: Global,
-    own: &Instances<'_, '_>,
-    wanted: &Instances<'_, '_>,
+    own: &Instances<'_>,
+    wanted: &Instances<'_>,
 ) -> Result<bool, NoMemory>
     ensures { IfOk result (λ same. IsTrue same ↔ (tys_of own.now ≡ tys_of wanted.now)) }
 {

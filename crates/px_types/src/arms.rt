@@ -92,7 +92,7 @@ fn has_no_arm(slots: &Slots, con: u32) -> bool
 fn variables_met(
     env: &Env<'_>,
     vars: &Items<u32>,
-    fields: &Instances<'_, '_>,
+    fields: &Instances<'_>,
 ) -> Result<(), TypeEnd>
     ensures { let found = each_two (variable_met (env_of env.now)) vars.now (tys_of fields.now) in MatchResult result (λ _. (all : List (Unit {0})) × (found ≡ Ok all)) (EndsAs found) }
 {
@@ -136,7 +136,7 @@ pub(crate) fn pattern<'a>(
 /// Puts the types of a pattern's variables on top of those around it. It takes memory, and fails only where there is none.
 pub(crate) fn bind(
     alloc: Global,
-    fields: &Instances<'_, '_>,
+    fields: &Instances<'_>,
     bound: &mut Items<Ty>,
 ) -> Result<(), NoMemory>
     ensures { OnOk result (bound.new ≡ bound.old ++ tys_of fields.now) }

@@ -14,6 +14,7 @@ pub(crate) enum Stand {
 
 /// What is in scope at a part of a declaration: the program so far, the declaration's place, its type and function
 /// parameters, its data variables, and of each definition the properties that are declared before the place.
+#[derive(Drop)]
 pub(crate) struct Env<'a> {
     pub alloc: Global,
     pub program: &'a Program,
@@ -34,7 +35,7 @@ pub(crate) struct Wanted<'a> {
 
 /// Types with other types put in for their type variables.
 #[derive(Clone, Copy)]
-pub(crate) struct Instances<'a, 'b> {
+pub(crate) struct Instances<'a> {
     pub tys: &'a Items<Ty>,
-    pub types: &'b Items<Ty>,
+    pub types: &'a Items<Ty>,
 }

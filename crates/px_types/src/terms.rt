@@ -307,7 +307,7 @@ fn type_arms(
 fn type_parts(
     env: &Env<'_>,
     raws: &Items<RawTerm>,
-    wanted: &Instances<'_, '_>,
+    wanted: &Instances<'_>,
     bound: &mut Items<Ty>,
 ) -> Result<Items<Term>, TypeEnd>
     ensures answers { Answers (parts_found (env_of env.now) (reverse bound.old) raws.now (tys_of wanted.now)) result }
