@@ -46,3 +46,10 @@ pub mod TypedSteps
 pub mod Reached
 pub mod Numbers
 pub mod Judging
+pub mod MetSteps
+pub mod TwoLoops
+pub mod HeadSteps
+pub mod SaidSteps
+pub mod ArgumentSteps
+pub mod ArmSteps
+pub mod TermSteps

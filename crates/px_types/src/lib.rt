@@ -4,15 +4,18 @@
 #![tactic(auto)]
 
 mod arguments;
+mod arms;
 mod checking;
 mod datatypes;
 mod declare;
 mod definitions;
 mod ends;
 mod env;
+mod heads;
 mod laws;
 mod lemmas;
 mod lists;
+mod met;
 mod notes;
 mod program_laws;
 mod programs;
