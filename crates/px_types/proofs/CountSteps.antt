@@ -1,8 +1,8 @@
 -- How many obligations, definitions and lemmas there are of the declarations so far: few enough to be numbered.
-use Rattle.std.proofs.Common.{◌≡◌, ℕ, zero, suc, ◌+◌, ◌<◌, ◌≤◌, ◌^◌, List, [], ◌∷◌, ◌++◌, length, map, take, drop, get_or, Option, Some, None, Result, Ok, Err,
-    refl, sym, ◌∙◌, ap, subst, arith, length-append}
+use Rattle.std.proofs.Common.{◌≡◌, ℕ, suc, ◌+◌, ◌<◌, ◌≤◌, ◌^◌, List, [], ◌∷◌, ◌++◌, length, map, take, get_or, Option, Some, None, Result, Ok, Err, refl, ◌∙◌,
+    ap, subst, arith, length-append}
 use Rattle.std.specs.Prelude.{sum, slice_get}
-use Rattle.std.proofs.lemmas.List.{length-map, take_all, map_more, drop_more}
+use Rattle.std.proofs.lemmas.List.{take_all, map_more}
 use Rattle.std.proofs.lemmas.List.Sums.{sum_by-cons, sum_by-append}
 use Rattle.std.proofs.lemmas.Option.{slice_get_within, get_or_from_slice_get}
 use Rattle.px_base.specs.declared.raw.Decl.{Decl}
@@ -16,21 +16,14 @@ use Rattle.px_base.specs.declared.raw.RawReplica.{RawReplica}
 use Rattle.px_base.specs.declared.raw.RawProgram.{RawProgram}
 use Rattle.px_base.specs.Fitting.{Counts, bool_alone, AreInOrder, AreAll, IsFitting, def_props, claim_props, obligation_count}
 use Rattle.px_base.specs.Fitting as fitting
-use Rattle.px_terms.specs.declared.types.Ty.{Ty}
-use Rattle.px_terms.specs.declared.types.Fun.{Fun}
-use Rattle.px_terms.specs.declared.term.Term.{Term}
-use Rattle.px_terms.specs.declared.clause.Equation.{Equation}
-use Rattle.px_terms.specs.declared.program.ConDef.{ConDef}
 use Rattle.px_terms.specs.declared.program.Def as definition
 use Rattle.px_terms.specs.declared.program.Declared.{Declared}
 use Rattle.px_terms.specs.declared.program.Declared.TheVariants as declared
 use Rattle.px_terms.specs.declared.program.Program.{Program}
 use Rattle.px_types.specs.Faults.{Broken}
-use Rattle.px_types.specs.Written.{props_of}
 use Rattle.px_types.specs.Outcomes.{onward}
-use Rattle.px_types.specs.Outcome.{Signature}
 use Rattle.px_types.specs.Declarations.{start, with_obligations, obligations_of}
-use Rattle.px_types.specs.NextOutcome.{Heading, datatype_found, body_found, equations_found, merge_found, terms_found, types_found, next_found}
+use Rattle.px_types.specs.NextOutcome.{datatype_found, body_found, equations_found, merge_found, terms_found, types_found, next_found}
 use Rattle.px_types.specs.Checkings.{AreFew}
 
 -- what follows from what comes behind a stage

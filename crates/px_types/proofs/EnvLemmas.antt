@@ -1,5 +1,5 @@
 -- What is known of each definition where a declaration stands.
-use Rattle.std.proofs.Common.{◌≡◌, ℕ, zero, suc, ◌+◌, ◌<◌, ◌≤◌, List, [], ◌∷◌, ◌++◌, length, take, Option, Some, None, refl, sym, ◌∙◌, ap, subst, arith}
+use Rattle.std.proofs.Common.{◌≡◌, ℕ, List, [], ◌∷◌, ◌++◌, length, take, Option, Some, None, refl, sym, ◌∙◌, ap, arith}
 use Rattle.std.specs.Prelude.{slice_get}
 use Rattle.std.specs.List.{list_any}
 use Rattle.std.proofs.lemmas.List.{take_all}
@@ -8,7 +8,7 @@ use Rattle.px_terms.specs.declared.program.Def as definition
 use Rattle.px_terms.specs.declared.program.Declared.{Declared}
 use Rattle.px_terms.specs.declared.program.Program.{Program}
 use Rattle.px_terms.specs.Typing.{in_body, behind}
-use Rattle.px_types.specs.Outcome.{is_property_of, obligations_before}
+use Rattle.px_types.specs.Outcome.{is_property_of}
 use Rattle.px_types.specs.Scopes.{Knows}
 use Rattle.px_types.specs.Checkings.{AreNotes}
 

@@ -1,5 +1,5 @@
 -- What is found of a lemma, by the stages of the code.
-use Rattle.std.proofs.Common.{◌≡◌, ℕ, Bool, List, [], ◌∷◌, ◌++◌, length, Result, Ok, Err, refl, sym, ◌∙◌, ap, subst}
+use Rattle.std.proofs.Common.{◌≡◌, ℕ, Bool, List, [], length, Result, Ok, refl, sym, ◌∙◌, ap, subst}
 use Rattle.std.specs.Prelude.{reverse}
 use Rattle.px_base.specs.declared.raw.RawEquation.{RawEquation}
 use Rattle.px_base.specs.declared.raw.RawLemma.{RawLemma}

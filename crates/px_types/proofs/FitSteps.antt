@@ -1,5 +1,5 @@
 -- A property that is tried by the table of the code.
-use Rattle.std.proofs.Common.{◌≡◌, Bool, List, Result, subst, IsTrue}
+use Rattle.std.proofs.Common.{Bool, List, Result, subst, IsTrue}
 use Rattle.std.specs.Prelude.{◌↔◌}
 use Rattle.std.proofs.lemmas.Bool.Decides.{same_from_decides}
 use Rattle.px_base.specs.declared.head.Head.{Head}

@@ -1,7 +1,5 @@
 -- What is found of a definition's heading, of its signature and of its body, by the stages of the code.
-use Rattle.std.proofs.Common.{◌≡◌, ℕ, ◌+◌, ◌<◌, ◌≤◌, List, [], ◌∷◌, ◌++◌, length, Option, Some, None, Result, Ok, Err, refl, sym, ◌∙◌, ap, subst, arith,
-    length-append}
-use Rattle.std.specs.Prelude.{slice_get}
+use Rattle.std.proofs.Common.{◌≡◌, ℕ, ◌<◌, List, [], ◌∷◌, ◌++◌, length, Result, Ok, Err, refl, sym, ◌∙◌, ap, subst, arith, length-append}
 use Rattle.std.proofs.lemmas.List.{same_from_push}
 use Rattle.px_base.specs.PropSets.{set_of}
 use Rattle.px_base.specs.declared.head.Head.TheVariants.{Def}
@@ -9,28 +7,24 @@ use Rattle.px_base.specs.declared.prop.PropSet.{PropSet}
 use Rattle.px_base.specs.declared.raw.RawProp.{RawProp}
 use Rattle.px_base.specs.declared.raw.RawFnType.{RawFnType}
 use Rattle.px_base.specs.declared.raw.RawDef.{RawDef}
-use Rattle.px_base.specs.declared.raw.RawTerm.{RawTerm}
 use Rattle.px_terms.specs.declared.types.Ty.{Ty}
 use Rattle.px_terms.specs.declared.types.FnType.{FnType}
 use Rattle.px_terms.specs.declared.term.Term.{Term}
 use Rattle.px_terms.specs.declared.term.Term.TheVariants as term
 use Rattle.px_terms.specs.declared.program.Def as definition
-use Rattle.px_terms.specs.declared.program.Declared.{Declared}
 use Rattle.px_terms.specs.declared.program.Program.{Program}
 use Rattle.px_terms.specs.Typing.{in_body}
 use Rattle.px_terms.specs.TypedPrograms.{own_context}
 use Rattle.px_types.specs.declared.ends.TypeEnd.{TypeEnd}
-use Rattle.px_types.specs.declared.ends.TypeEnd.TheVariants.{Fault, NoMemory}
-use Rattle.px_types.specs.Faults.{Broken, breaks, Env}
+use Rattle.px_types.specs.Faults.{Broken, Env}
 use Rattle.px_types.specs.Answers.{EndsAs, Answers}
 use Rattle.px_types.specs.Outcomes.{onward}
 use Rattle.px_types.specs.Outcome.{tys_found, ty_found, part_found, part_of}
-use Rattle.px_types.specs.Declarations.{with_definition, with_obligations, obligations_of, without_body, body_env}
+use Rattle.px_types.specs.Declarations.{with_definition, without_body, body_env}
 use Rattle.px_types.specs.Written.{props_of}
 use Rattle.px_types.specs.NextOutcome.{fn_type_found, fn_types_found, heading_found, assumed_found, props_found, signature_found, body_found}
-use Rattle.px_types.specs.Checkings.{AnswersAs, own_env, with_whole}
-use Rattle.px_types.proofs.Stages.{stage, stage_fails, end_is}
-use Rattle.px_types.proofs.EnvLemmas.{last_of}
+use Rattle.px_types.specs.Checkings.{own_env, with_whole}
+use Rattle.px_types.proofs.Stages.{stage, stage_fails}
 
 -- a function type, by its parts
 pub fn_type_ok : (P : Program) (tparams : ℕ) (raw : RawFnType) (params : List Ty) (given : Ty) (props : List RawProp) (set : PropSet) →

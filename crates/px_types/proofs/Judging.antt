@@ -1,7 +1,6 @@
 -- What the answer for a whole program says of it, by the laws of programs.
-use Rattle.std.proofs.Common.{◌≡◌, ◌⊎◌, inl, inr, Result, Ok, Err, IfOk, refl, sym, ◌∙◌, ap}
+use Rattle.std.proofs.Common.{◌≡◌, inl, inr, Result, Ok, Err, IfOk, refl, sym, ◌∙◌, ap}
 use Rattle.std.specs.Prelude.{IfErr}
-use Rattle.px_base.specs.declared.names.Names.{Names}
 use Rattle.px_base.specs.declared.raw.RawProgram.{RawProgram}
 use Rattle.px_base.specs.Fitting.{IsFitting}
 use Rattle.px_terms.specs.declared.program.Program.{Program}

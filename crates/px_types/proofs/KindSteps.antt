@@ -1,5 +1,5 @@
 -- What is found of a declaration, by its kind.
-use Rattle.std.proofs.Common.{◌≡◌, ℕ, Option, Some, None, Result, Ok, Err, refl, sym, ◌∙◌, ap, subst}
+use Rattle.std.proofs.Common.{◌≡◌, ℕ, Option, Some, None, Result, Ok, sym, ◌∙◌, ap, subst}
 use Rattle.std.specs.Prelude.{slice_get}
 use Rattle.px_base.specs.declared.raw.Decl.{Decl}
 use Rattle.px_base.specs.declared.raw.Decl.TheVariants as decl

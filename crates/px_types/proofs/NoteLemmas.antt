@@ -1,11 +1,9 @@
 -- What the notes say of the properties of each definition, as they grow.
-use Rattle.std.proofs.Common.{◌≡◌, ◌⊎◌, inl, inr, ℕ, zero, suc, ◌<◌, ◌≤◌, ◌+◌, Bool, true, false, cond, eqb, ◌&&◌, ◌||◌, List, [], ◌∷◌, ◌++◌, length, map, take,
-    get_or, Option, Some, None, refl, sym, ◌∙◌, ap, subst, Decides, arith, IsTrue}
+use Rattle.std.proofs.Common.{◌≡◌, ◌⊎◌, ℕ, zero, suc, ◌<◌, ◌≤◌, ◌+◌, Bool, true, false, cond, eqb, ◌&&◌, ◌||◌, List, [], ◌∷◌, ◌++◌, length, take, get_or, Some,
+    refl, sym, ◌∙◌, ap, subst, Decides}
 use Rattle.std.specs.Prelude.{slice_get, slice_set, ◌==◌, ◌↔◌}
 use Rattle.std.specs.List.{list_any}
-use Rattle.std.specs.Option.{IsSomeAnd}
 use Rattle.std.proofs.Math.Dec.{eqb-suc-zero, eqb-zero-suc, eqb-suc-suc}
-use Rattle.std.proofs.lemmas.Bool.{false≢true}
 use Rattle.std.proofs.lemmas.Bool.Decides.{same_from_decides, Decides-eqb, Decides-or, Decides-like}
 use Rattle.std.proofs.lemmas.List.{take_all}
 use Rattle.std.proofs.lemmas.List.Folds.{list_any-append, list_any_more}
@@ -19,7 +17,7 @@ use Rattle.px_terms.specs.declared.program.Declared.{Declared}
 use Rattle.px_terms.specs.declared.program.Declared.TheVariants as declared
 use Rattle.px_types.specs.Written.{props_of}
 use Rattle.px_types.specs.Declarations.{obligations_of}
-use Rattle.px_types.specs.Outcome.{passes, same_prop, is_among, is_property_of}
+use Rattle.px_types.specs.Outcome.{same_prop, is_among, is_property_of}
 use Rattle.px_types.specs.Checkings.{is_noted, AreNotes}
 
 or_none : (b : Bool) → (b || false) ≡ b

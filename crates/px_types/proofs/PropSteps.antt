@@ -1,9 +1,8 @@
 -- Loops over properties, and over the functions of which they are assumed.
-use Rattle.std.proofs.Common.{◌≡◌, ℕ, zero, suc, ◌+◌, ◌<◌, ◌≤◌, List, [], ◌∷◌, length, get_or, drop, Option, Some, Result, Ok, Err, refl, sym, ◌∙◌, ap, subst,
-    add-one, drop-cons, arith}
+use Rattle.std.proofs.Common.{◌≡◌, ℕ, zero, suc, ◌+◌, ◌<◌, ◌≤◌, List, [], ◌∷◌, length, get_or, drop, Option, Result, Ok, refl, sym, ◌∙◌, ap, subst, add-one,
+    drop-cons}
 use Rattle.std.specs.Prelude.{slice_get}
 use Rattle.std.specs.Option.{option_map}
-use Rattle.std.specs.Result.{IsErrAnd}
 use Rattle.std.proofs.lemmas.List.{drop_all, drop-drop}
 use Rattle.px_base.specs.declared.head.Head.{Head}
 use Rattle.px_base.specs.declared.head.Head.TheVariants.{FnVar}
@@ -13,14 +12,13 @@ use Rattle.px_terms.specs.declared.types.Ty.{Ty}
 use Rattle.px_terms.specs.declared.types.FnType.{FnType}
 use Rattle.px_terms.specs.declared.program.Program.{Program}
 use Rattle.px_types.specs.declared.ends.TypeEnd.{TypeEnd}
-use Rattle.px_types.specs.declared.ends.TypeEnd.TheVariants.{Fault, NoMemory}
 use Rattle.px_types.specs.declared.ends.TypeKind.TheVariants.{PropertyShape}
-use Rattle.px_types.specs.Faults.{Broken, breaks}
-use Rattle.px_types.specs.Answers.{EndsAs, Answers}
+use Rattle.px_types.specs.Faults.{Broken}
+use Rattle.px_types.specs.Answers.{EndsAs}
 use Rattle.px_types.specs.Outcomes.{onward, needs}
 use Rattle.px_types.specs.Outcome.{passes}
 use Rattle.px_types.specs.NextOutcome.{fits, fits_pair, pair_of, prop_found, props_found, assumed_found}
-use Rattle.px_types.proofs.Stages.{stage, stage_fails, end_is}
+use Rattle.px_types.proofs.Stages.{stage, stage_fails}
 
 -- what is left of a list at a place within it
 left_at : {X : Type 0} (xs : List X) (i : ℕ) (x d : X) → i < length xs → x ≡ get_or xs i d → drop i xs ≡ x ∷ drop (i + 1) xs

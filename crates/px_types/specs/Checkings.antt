@@ -1,5 +1,5 @@
 -- What the calls answer that check the declarations of a program in turn, and what they know of the program so far.
-use Rattle.std.specs.Prelude.{◌≡◌, ◌⊎◌, ◌<◌, ◌^◌, ℕ, Bool, List, [], length, Result, Ok, Err, slice_get}
+use Rattle.std.specs.Prelude.{◌≡◌, ◌⊎◌, ◌<◌, ◌^◌, ℕ, Bool, List, length, Result, Ok, Err, slice_get}
 use Rattle.std.specs.List.{list_any}
 use Rattle.px_base.specs.PropSets.{has_prop}
 use Rattle.px_base.specs.declared.prop.Prop.{Prop}

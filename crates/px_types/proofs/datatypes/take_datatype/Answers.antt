@@ -1,4 +1,3 @@
-use Rattle.std.proofs.Common.{◌≡◌, ◌∙◌, ap, sym}
 use Rattle.px_types.proofs.DatatypeSteps.{datatype_fails, took_datatype}
 use Rattle.px_types.proofs.EndSteps.{ends_as}
 use Rattle.px_types.proofs.datatypes.take_datatype.Goals as goal

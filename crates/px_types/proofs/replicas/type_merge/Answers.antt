@@ -1,4 +1,3 @@
-use Rattle.std.proofs.Common.{◌≡◌, ◌∙◌, ap, ℕ, Ok}
 use Rattle.px_types.specs.Envs.{env_of}
 use Rattle.px_types.proofs.EndSteps.{ends_as}
 use Rattle.px_types.proofs.ReplicaSteps.{counts_fail, types_fail, stands_here, functions_fail, join_fails, merge_ok, seen_as}

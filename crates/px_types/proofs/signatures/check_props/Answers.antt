@@ -1,4 +1,3 @@
-use Rattle.px_base.specs.declared.raw.RawProp.{RawProp}
 use Rattle.px_types.proofs.Stages.{end_is}
 use Rattle.px_types.proofs.PropSteps.{props_next, props_fail, props_end}
 use Rattle.px_types.proofs.signatures.check_props.Goals as goal
