@@ -17,7 +17,9 @@ mod types;
 
 pub use ends::{TypeEnd, TypeKind};
 pub use laws::{
-    always_one, arguments_are_found, arguments_break_as_found, never_both, one_fault, one_typing, parts_are_found, parts_break_as_found, terms_are_found, terms_break_as_found, types_are_found, types_break_as_found,
+    always_one, arguments_are_found, arguments_break_as_found, never_both, one_fault, one_typing,
+    parts_are_found, parts_break_as_found, terms_are_found, terms_break_as_found, types_are_found,
+    types_break_as_found,
 };
 pub use typed::Typed;
 pub use types::{type_ty, type_tys};

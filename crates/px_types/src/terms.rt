@@ -18,9 +18,7 @@ use crate::heads::{built_in, can_call, counts_at, find_called};
 use crate::met::{con_met, instance_met, ty_met};
 use crate::typed::{Slots, Typed};
 use crate::types::{need, type_tys};
-use px_terms::{
-    Fun, RawArm, RawFun, RawTerm, RawTy, Term, Ty, copy_ty, copy_tys, instance_of_ty,
-};
+use px_terms::{Fun, RawArm, RawFun, RawTerm, RawTy, Term, Ty, copy_ty, copy_tys, instance_of_ty};
 use sqlite_items::{Boxed, Items, at};
 
 /// What is written of a construction besides its fields, with its first byte.
@@ -74,7 +72,17 @@ pub(crate) fn type_term(
             fields,
         } => {
             let (at, datatype, con) = (raw.at, *datatype, *con);
-            type_con(env, fields, &WrittenCon { at, datatype, con, types }, bound)
+            type_con(
+                env,
+                fields,
+                &WrittenCon {
+                    at,
+                    datatype,
+                    con,
+                    types,
+                },
+                bound,
+            )
         }
         px_terms::RawKind::Call { fun, funs, args } => {
             let at = raw.at;
@@ -239,7 +247,11 @@ fn type_match(
     ensures answers { Answers (match_found (env_of env.now) (reverse bound.old) scrutinee.at (scrutinee_part scrutinee) (map (arm_of (env_of env.now)) arms.now)) result }
     ensures bound { OnOk result (bound.new ≡ bound.old) }
 {
-    let Scrutinee { at: place, on_at, found } = scrutinee;
+    let Scrutinee {
+        at: place,
+        on_at,
+        found,
+    } = scrutinee;
     let Typed { term, ty } = found;
     let no_datatype = TypeEnd::Fault {
         kind: TypeKind::Mismatch,

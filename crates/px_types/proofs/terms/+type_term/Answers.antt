@@ -65,8 +65,8 @@ type_arms-loop-arm-preserved t c =
     let outer = around c.args.bound.now c.loop-arm.bound c.bind.new.bound fields c.loop-arm.invariant.kept c.in_ok-bind.ensures in
     record {
       rest = along_next (arm_here E b on) first c.args.arms.now c.as_slice-arm-items.result.now c.as_slice-arm-items.ensures c.loop-arm.slots c.in_ok-slots-2.slots c.loop-arm.arm-index c.arm-item.result c.loop-arm-test.true c.arm-item.is
-      (arm_found_is E b on c.loop-arm.slots c.arm-item.result c.in_ok-con.con.now c.in_ok-con.ensures.answers c.in_ok-found.found
-      (subst (λ (bound : List Ty). term_found E c.arm-item.result.body bound ≡ Ok c.in_ok-found.found) outer c.in_ok-found.ensures.answers) c.in_ok-slots-2.slots c.in_ok-slots-2.ensures) c.loop-arm.invariant.rest;
+          (arm_found_is E b on c.loop-arm.slots c.arm-item.result c.in_ok-con.con.now c.in_ok-con.ensures.answers c.in_ok-found.found
+          (subst (λ (bound : List Ty). term_found E c.arm-item.result.body bound ≡ Ok c.in_ok-found.found) outer c.in_ok-found.ensures.answers) c.in_ok-slots-2.slots c.in_ok-slots-2.ensures) c.loop-arm.invariant.rest;
       kept = c.unbind.ensures ∙ shrinks c.loop-arm.bound fields c.type_term.new.bound c.len.result (c.in_ok-found.ensures.bound ∙ c.in_ok-bind.ensures) (length-map c.in_ok-con.con.now.fields (ty_instance c.args.on.now.types.now) ∙ sym c.len.ensures) ∙ c.loop-arm.invariant.kept;
     }
 
@@ -138,8 +138,8 @@ type_parts-loop-number-preserved t c =
     let has = mapped_at (ty_instance c.args.wanted.now.types.now) c.args.wanted.now.tys.now c.as_slice.result.now c.loop-number.number c.in-Some.wanted_ty.now c.as_slice.ensures c.in-Some.ensures in
     record {
       rest = two_next (part_here E b) c.args.raws.now c.as_slice-raw-items.result.now (tys_of c.args.wanted.now) c.as_slice-raw-items.ensures c.loop-number.number c.raw-item.result T c.loop-number.terms c.push.new.self c.in_ok-term.field-0.term c.loop-number-test.true c.raw-item.is has
-      (part_typed E b c.raw-item.result T c.instance_met-is_met.result c.instance_met-is_met.ensures c.in_ok-need.field-0 c.in_ok-need.ensures c.in_ok-term.field-0
-      (subst (λ (bound : List Ty). term_found E c.raw-item.result (reverse bound) ≡ Ok c.in_ok-term.field-0) c.loop-number.invariant.kept c.in_ok-term.ensures.answers) c.in_ok-is_wanted.is_wanted c.in_ok-is_wanted.ensures c.in_ok-need-2.field-0 c.in_ok-need-2.ensures) c.in_ok-push.ensures.ok c.loop-number.invariant.rest;
+          (part_typed E b c.raw-item.result T c.instance_met-is_met.result c.instance_met-is_met.ensures c.in_ok-need.field-0 c.in_ok-need.ensures c.in_ok-term.field-0
+          (subst (λ (bound : List Ty). term_found E c.raw-item.result (reverse bound) ≡ Ok c.in_ok-term.field-0) c.loop-number.invariant.kept c.in_ok-term.ensures.answers) c.in_ok-is_wanted.is_wanted c.in_ok-is_wanted.ensures c.in_ok-need-2.field-0 c.in_ok-need-2.ensures) c.in_ok-push.ensures.ok c.loop-number.invariant.rest;
       kept = c.in_ok-term.ensures.bound ∙ c.loop-number.invariant.kept;
     }
 
