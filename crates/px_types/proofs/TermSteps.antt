@@ -83,8 +83,8 @@ module _ (E : Env) (raw : RawTerm) (bound : List Ty) where
   by_layer : (kind : RawKind) (y : RawKind-F RawKind RawArm RawTerm) → raw.kind ≡ kind → out-RawKind kind ≡ y → term_found E raw bound ≡ layer_found E y raw.at bound
   by_layer kind y e layer = term_found_is E raw bound ∙ ap (λ (z : RawKind-F RawKind RawArm RawTerm). layer_found E z raw.at bound) (ap out-RawKind e ∙ layer)
 
-  pub free_is : (n : ℕ) (types : List RawTy) → raw.kind ≡ kinds.Free n types → term_found E raw bound ≡ onward (variable_type_found E (type_of_variable E n) types raw.at) (λ (T : Ty). Ok (record { term = term.Free n; ty = T }))
-  free_is n types e = by_layer (kinds.Free n types) (RawKind-F.Free n types) e (kinds.outs-Free n types) ∙ variable_is E (term.Free n) (type_of_variable E n) types raw.at
+  pub free_is : (n : ℕ) (types : List RawTy) → raw.kind ≡ kinds.Free n types → term_found E raw bound ≡ variable_found E (term.Free n) (type_of_variable E n) types raw.at
+  free_is n types e = by_layer (kinds.Free n types) (RawKind-F.Free n types) e (kinds.outs-Free n types)
 
   pub bound_is : (n : ℕ) (types : List RawTy) → raw.kind ≡ kinds.Bound n types → term_found E raw bound ≡ onward (variable_type_found E (slice_get bound n) types raw.at) (λ (T : Ty). Ok (record { term = term.Bound n; ty = T }))
   bound_is n types e = by_layer (kinds.Bound n types) (RawKind-F.Bound n types) e (kinds.outs-Bound n types) ∙ variable_is E (term.Bound n) (slice_get bound n) types raw.at

@@ -150,16 +150,10 @@ type_parts-returns-clause-answers t c =
     parts_here E b c.args.raws.now (tys_of c.args.wanted.now)
     ∙ two_end (part_here E b) c.args.raws.now c.as_slice-raw-items.result.now (tys_of c.args.wanted.now) c.as_slice-raw-items.ensures c.loop-number.number c.loop-number.terms c.loop-number-test.false c.loop-number.invariant.rest
 
-pub type_term-returns-in_err-ty-in-Free-clause-answers : goal.type_term-returns-in_err-ty-in-Free-clause-answers
-type_term-returns-in_err-ty-in-Free-clause-answers t c =
-    let n = c.in-Free.number in
-    let stands = c.at-stands.ensures ∙ ap (λ (vars : List Ty). slice_get vars n) c.as_slice.ensures ∙ sym (live_type c.args.env.now.vars.now n) in
-    variable_fails (env_of c.args.env.now) c.args.raw.now.at (term.Free n) c.in-Free.types _ _ stands (free_is (env_of c.args.env.now) c.args.raw.now (reverse c.args.bound.now) n c.in-Free.types c.in-Free.is) c.from_residual.result c.in_err-ty-in-Free.field-0.0 c.from_residual.ensures.1 c.in_err-ty-in-Free.ensures
-
 pub type_term-returns-in_err-ty-in-Bound-clause-answers : goal.type_term-returns-in_err-ty-in-Bound-clause-answers
 type_term-returns-in_err-ty-in-Bound-clause-answers t c =
     let n = c.in-Bound.number in
-    variable_fails (env_of c.args.env.now) c.args.raw.now.at (term.Bound n) c.in-Bound.types _ _ c.nearest.ensures (bound_is (env_of c.args.env.now) c.args.raw.now (reverse c.args.bound.now) n c.in-Bound.types c.in-Bound.is) c.from_residual-in_err-ty-in-Bound.result c.in_err-ty-in-Bound.field-0.0 c.from_residual-in_err-ty-in-Bound.ensures.1 c.in_err-ty-in-Bound.ensures
+    variable_fails (env_of c.args.env.now) c.args.raw.now.at (term.Bound n) c.in-Bound.types _ _ c.nearest.ensures (bound_is (env_of c.args.env.now) c.args.raw.now (reverse c.args.bound.now) n c.in-Bound.types c.in-Bound.is) c.from_residual.result c.in_err-ty-in-Bound.field-0.0 c.from_residual.ensures.1 c.in_err-ty-in-Bound.ensures
 
 pub type_term-returns-in_err-found-in-Match-clause-answers : goal.type_term-returns-in_err-found-in-Match-clause-answers
 type_term-returns-in_err-found-in-Match-clause-answers t c =
@@ -170,11 +164,8 @@ type_term-returns-in_err-found-in-Match-clause-answers t c =
     (scrutinee_fails E c.args.raw.now b c.in-Match.on c.in-Match.arms end c.in-Match.is
     (subst (λ (on : RawTerm). EndsAs (term_found E on b) end) c.get-in-Match.ensures c.in_err-found-in-Match.ensures.answers))
 
-pub type_term-returns-in_ok-ty-in-Free-clause-answers : goal.type_term-returns-in_ok-ty-in-Free-clause-answers
-type_term-returns-in_ok-ty-in-Free-clause-answers t c =
-    let n = c.in-Free.number in
-    let stands = c.at-stands.ensures ∙ ap (λ (vars : List Ty). slice_get vars n) c.as_slice.ensures ∙ sym (live_type c.args.env.now.vars.now n) in
-    variable_typed (env_of c.args.env.now) c.args.raw.now.at (term.Free n) c.in-Free.types _ _ stands (free_is (env_of c.args.env.now) c.args.raw.now (reverse c.args.bound.now) n c.in-Free.types c.in-Free.is) c.in_ok-ty-in-Free.ty c.in_ok-ty-in-Free.ensures
+pub type_term-returns-in-Free-clause-answers : goal.type_term-returns-in-Free-clause-answers
+type_term-returns-in-Free-clause-answers t c = answers_as _ _ c.type_free.result (free_is (env_of c.args.env.now) c.args.raw.now (reverse c.args.bound.now) c.in-Free.number c.in-Free.types c.in-Free.is) c.type_free.ensures
 
 pub type_term-returns-in_ok-ty-in-Bound-clause-answers : goal.type_term-returns-in_ok-ty-in-Bound-clause-answers
 type_term-returns-in_ok-ty-in-Bound-clause-answers t c =
