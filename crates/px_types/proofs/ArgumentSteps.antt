@@ -1,5 +1,6 @@
 -- Types that are compared, as the code compares them.
-use Rattle.std.proofs.Common.{◌≡◌, ◌↔◌, ℕ, suc, ◌+◌, ◌<◌, ◌≤◌, Bool, true, false, IsTrue, List, [], ◌∷◌, ◌++◌, length, map, get_or, take, Result, Ok, Err, refl, sym, ◌∙◌, ap, Decides, arith, add-one}
+use Rattle.std.proofs.Common.{◌≡◌, ◌↔◌, ℕ, ◌+◌, ◌<◌, ◌≤◌, Bool, true, false, IsTrue, List, [], ◌∷◌, ◌++◌, length, map, get_or, take, Result, Ok, Err, refl}
+use Rattle.std.proofs.Common.{sym, ◌∙◌, ap, arith, add-one}
 use Rattle.std.proofs.Math.Seq.{take-suc}
 use Rattle.std.proofs.lemmas.Bool.{false≢true}
 use Rattle.std.proofs.lemmas.Bool.Decides.{same_from_decides}
@@ -8,7 +9,7 @@ use Rattle.px_terms.specs.declared.types.Ty.{Ty}
 use Rattle.px_terms.specs.declared.types.FnType.{FnType}
 use Rattle.std.specs.Result.{IfOk}
 use Rattle.px_types.specs.Outcome.{Signature, is_alike, same}
-use Rattle.px_types.proofs.Functions.{IsAlike, decides_alike}
+use Rattle.px_types.proofs.Functions.{decides_alike}
 use Rattle.px_types.proofs.Sameness.{decides_same}
 
 pub same_is : (a b : Ty) (r : Bool) → (IsTrue r ↔ (a ≡ b)) → r ≡ same a b
@@ -46,12 +47,15 @@ module _ (f g : Ty → Ty) (tys others : List Ty) where
       let more : take (i + 1) (map h xs) ≡ take i (map h xs) ++ get_or (map h xs) i (h T) ∷ [] = rw add-one (take-suc (map h xs) i (h T) within) in
       more ∙ ap (λ (U : Ty). take i (map h xs) ++ U ∷ []) (get_or-map h xs i T (h T) below ∙ ap h (sym is))
 
-  pub alike_next : (i : ℕ) (T U : Ty) (b : Bool) → i < length tys → i < length others → T ≡ get_or tys i T → U ≡ get_or others i U → (IsTrue b ↔ (f T ≡ g U)) → b ≡ true → take i (map f tys) ≡ take i (map g others) → take (i + 1) (map f tys) ≡ take (i + 1) (map g others)
+  pub alike_next : (i : ℕ) (T U : Ty) (b : Bool) → i < length tys → i < length others → T ≡ get_or tys i T → U ≡ get_or others i U → (IsTrue b ↔ (f T ≡ g U)) →
+      b ≡ true → take i (map f tys) ≡ take i (map g others) → take (i + 1) (map f tys) ≡ take (i + 1) (map g others)
   alike_next i T U b h k is js tells e before = one_more f tys i T h is ∙ (λ j. before j ++ tells.0 e j ∷ []) ∙ sym (one_more g others i U k js)
 
-  pub alike_fails : (i : ℕ) (T U : Ty) (b : Bool) → i < length tys → i < length others → T ≡ get_or tys i T → U ≡ get_or others i U → (IsTrue b ↔ (f T ≡ g U)) → b ≡ false → map f tys ≡ map g others → ⊥
+  pub alike_fails : (i : ℕ) (T U : Ty) (b : Bool) → i < length tys → i < length others → T ≡ get_or tys i T → U ≡ get_or others i U → (IsTrue b ↔ (f T ≡ g U)) →
+      b ≡ false → map f tys ≡ map g others → ⊥
   alike_fails i T U b h k is js tells e all =
-      let one : f T ≡ g U = ap f is ∙ sym (get_or-map f tys i T (f T) h) ∙ ap (λ (xs : List Ty). get_or xs i (f T)) all ∙ get_or-map g others i U (f T) k ∙ ap g (sym js) in
+      let one : f T ≡ g U = ap f is ∙ sym (get_or-map f tys i T (f T) h) ∙ ap (λ (xs : List Ty). get_or xs i (f T)) all ∙ get_or-map g others i U (f T) k ∙ ap g
+      (sym js) in
       false≢true (sym e ∙ tells.1 one)
 
   pub alike_end : (i : ℕ) → length tys ≤ i → length others ≤ i → take i (map f tys) ≡ take i (map g others) → map f tys ≡ map g others
@@ -76,9 +80,12 @@ module _ (own : Signature) (wanted : FnType) where
   other_params h = not_true _ (λ t. h ((decides_alike own wanted).0 t).params)
 
   pub result_tells : (r : Bool) → length own.takes ≡ 0 → own.params ≡ wanted.params → (IsTrue r ↔ (own.result ≡ wanted.result)) → r ≡ is_alike own wanted
-  result_tells r none params h = same_from_decides r (is_alike own wanted) (λ t. record { takes = none_of_length own.takes none; params = params; result = h.0 t }, λ a. h.1 a.result) (decides_alike own wanted)
+  result_tells r none params h =
+      same_from_decides r (is_alike own wanted) (λ t. record { takes = none_of_length own.takes none; params = params; result = h.0 t }, λ a. h.1 a.result)
+      (decides_alike own wanted)
 
   -- the same of an answer, where memory may have run out
-  pub answer_tells : {End : Type 0} (r : Result Bool End) → length own.takes ≡ 0 → own.params ≡ wanted.params → IfOk r (λ (b : Bool). IsTrue b ↔ (own.result ≡ wanted.result)) → IfOk r (λ (b : Bool). b ≡ is_alike own wanted)
+  pub answer_tells : {End : Type 0} (r : Result Bool End) → length own.takes ≡ 0 → own.params ≡ wanted.params →
+      IfOk r (λ (b : Bool). IsTrue b ↔ (own.result ≡ wanted.result)) → IfOk r (λ (b : Bool). b ≡ is_alike own wanted)
   answer_tells (Ok b) none params h = result_tells b none params h
   answer_tells (Err e) none params h = tt

@@ -1,6 +1,7 @@
 -- The arms of a match, as the code types them.
-use Rattle.std.proofs.Common.{◌≡◌, ◌↔◌, ℕ, zero, suc, ◌+◌, ◌-◌, ◌<◌, ◌≤◌, Bool, true, false, ◌==◌, IsTrue, List, [], ◌∷◌, ◌++◌, length, map, reverse, get_or, take, MatchOption, Option, Some, None, Result, Ok, Err, refl, sym, ◌∙◌, ap, append_assoc, arith, add-one}
-use Rattle.std.specs.Prelude.{slice_get, slice_set, replicate}
+use Rattle.std.proofs.Common.{◌≡◌, ◌↔◌, ℕ, ◌+◌, ◌-◌, ◌<◌, Bool, true, false, ◌==◌, IsTrue, List, [], ◌∷◌, ◌++◌, length, map, reverse, get_or, take}
+use Rattle.std.proofs.Common.{MatchOption, Option, Some, None, Result, Ok, Err, refl, sym, ◌∙◌, ap, append_assoc, arith, add-one}
+use Rattle.std.specs.Prelude.{slice_get, replicate}
 use Rattle.std.specs.Option.{option_map}
 use Rattle.std.proofs.Math.Seq.{take-append_seam, take-suc}
 use Rattle.std.proofs.lemmas.Bool.Decides.{same_from_decides}
@@ -20,10 +21,10 @@ use Rattle.px_types.specs.declared.ends.TypeKind.{TypeKind}
 use Rattle.px_types.specs.declared.ends.TypeKind.TheVariants.{Mismatch, Arity, ArmRepeated}
 use Rattle.px_types.specs.declared.typed.Typed.{Typed}
 use Rattle.px_types.specs.declared.typed.Slots.{Slots}
-use Rattle.px_types.specs.Faults.{Broken, breaks, Env}
+use Rattle.px_types.specs.Faults.{Broken, Env}
 use Rattle.px_types.specs.Answers.{EndsAs}
 use Rattle.px_types.specs.Outcomes.{onward, needs, there, each_two, along}
-use Rattle.px_types.specs.Outcome.{Part, ArmPart, part_of, term_found, Chosen, chosen_of, pattern_of, is_open, passes, agrees, same, variable_met, arm_found, all_filled}
+use Rattle.px_types.specs.Outcome.{part_of, term_found, Chosen, chosen_of, pattern_of, is_open, passes, agrees, same, variable_met, arm_found, all_filled}
 use Rattle.px_types.specs.Envs.{arm_of, pattern_found, filled_found}
 use Rattle.px_types.proofs.Sameness.{decides_same}
 use Rattle.px_types.proofs.Stages.{stage, stage_fails}
@@ -31,14 +32,17 @@ use Rattle.px_types.proofs.TermShapes.{part_at}
 use Rattle.px_types.proofs.TwoLoops.{along_made}
 
 -- four stages and then the rest, grouped in two ways
-three : {A B C D T : Type 0} (b : Result B Broken) (c : Result C Broken) (d : Result D Broken) (x : A) (g : A → Result T Broken) → onward (onward b (λ _. onward c (λ _. onward d (λ _. Ok x)))) g ≡ onward b (λ _. onward c (λ _. onward d (λ _. g x)))
+three : {A B C D T : Type 0} (b : Result B Broken) (c : Result C Broken) (d : Result D Broken) (x : A) (g : A → Result T Broken) →
+    onward (onward b (λ _. onward c (λ _. onward d (λ _. Ok x)))) g ≡ onward b (λ _. onward c (λ _. onward d (λ _. g x)))
 unfolding onward
 three (Err e) c d x g = refl
 three (Ok y) (Err e) d x g = refl
 three (Ok y) (Ok z) (Err e) x g = refl
 three (Ok y) (Ok z) (Ok w) x g = refl
 
-four : {A B C D T : Type 0} (a : Result A Broken) (b : A → Result B Broken) (c : A → Result C Broken) (d : A → Result D Broken) (g : A → Result T Broken) → onward (onward a (λ (x : A). onward (b x) (λ _. onward (c x) (λ _. onward (d x) (λ _. Ok x))))) g ≡ onward a (λ (x : A). onward (b x) (λ _. onward (c x) (λ _. onward (d x) (λ _. g x))))
+four : {A B C D T : Type 0} (a : Result A Broken) (b : A → Result B Broken) (c : A → Result C Broken) (d : A → Result D Broken) (g : A → Result T Broken) →
+    onward (onward a (λ (x : A). onward (b x) (λ _. onward (c x) (λ _. onward (d x) (λ _. Ok x))))) g
+    ≡ onward a (λ (x : A). onward (b x) (λ _. onward (c x) (λ _. onward (d x) (λ _. g x))))
 unfolding onward
 four (Err e) b c d g = refl
 four (Ok x) b c d g = three (b x) (c x) (d x) x g
@@ -65,7 +69,10 @@ module _ (E : Env) (bound : List Ty) (on : Chosen) (s : Slots) (raw : RawArm) wh
 
   grouped : arm_found E bound on s (arm_of E raw) ≡ onward (pattern_found E on s (arm_of E raw)) (part_after (part_of E raw.body).at)
   unfolding arm_found arm_of pattern_found filled_found term_found part_after
-  grouped = sym (four (there (pattern_of E.program (arm_of E raw)) Arity raw.at) (λ _. needs (raw.datatype == on.number) Mismatch raw.at) (λ _. needs (is_open s raw.con) ArmRepeated raw.at) (λ (c : ConDef). each_two (variable_met E) raw.vars (tys_instance on.types c.fields)) (part_after (part_of E raw.body).at))
+  grouped =
+      sym (four (there (pattern_of E.program (arm_of E raw)) Arity raw.at) (λ _. needs (raw.datatype == on.number) Mismatch raw.at)
+      (λ _. needs (is_open s raw.con) ArmRepeated raw.at) (λ (c : ConDef). each_two (variable_met E) raw.vars (tys_instance on.types c.fields))
+      (part_after (part_of E raw.body).at))
 
   pub arm_is : arm_found E bound on s (arm_of E raw) ≡ onward (pattern_found E on s (arm_of E raw)) after_pattern
   unfolding part_after
@@ -97,7 +104,8 @@ module _ (E : Env) (bound : List Ty) (on : Chosen) (s : Slots) (raw : RawArm) wh
       pub arm_found_is : (t : Slots) → after_body found ≡ Ok t → arm_here E bound on s raw ≡ Ok t
       arm_found_is t h = at_end ∙ h
 
-pub arms_here : (E : Env) (bound : List Ty) (on : Chosen) (s : Slots) (arms : List RawArm) → along (arm_found E bound on) s (map (arm_of E) arms) ≡ along (arm_here E bound on) s arms
+pub arms_here : (E : Env) (bound : List Ty) (on : Chosen) (s : Slots) (arms : List RawArm) →
+    along (arm_found E bound on) s (map (arm_of E) arms) ≡ along (arm_here E bound on) s arms
 unfolding arm_here
 arms_here E bound on s arms = along_made (arm_found E bound on) (arm_of E) s arms
 
@@ -110,7 +118,8 @@ pub open_within : (slots : Slots) (k : ℕ) (b : Bool) → b ≡ is_open slots k
 unfolding is_open
 open_within slots k b e t = go (slice_get slots.bodies k) refl (sym e ∙ t)
   where
-    go : (o : Option (Option Term)) → slice_get slots.bodies k ≡ o → passes (λ (slot : Option Term). elim slot [ None ↦ true | Some t ↦ false ]) o ≡ true → k < length slots.bodies
+    go : (o : Option (Option Term)) → slice_get slots.bodies k ≡ o → passes (λ (slot : Option Term). elim slot [ None ↦ true | Some t ↦ false ]) o ≡ true →
+        k < length slots.bodies
     go None is h = absurd cc
     go (Some slot) is h = slice_get_within slots.bodies k slot is
 
@@ -124,7 +133,8 @@ unfolding agrees
 agrees_is first T b h = same_from_decides b (same T first) h (decides_same T first)
 
 -- the datatype of a scrutinee
-pub chosen_is : (P : Program) (T : Ty) (d : ℕ) (types : List Ty) (D : DataDef) → T ≡ type.Con d types → slice_get P.datatypes d ≡ Some D → chosen_of P (out-Ty T) ≡ Some (record { number = d; types = types; datatype = D })
+pub chosen_is : (P : Program) (T : Ty) (d : ℕ) (types : List Ty) (D : DataDef) → T ≡ type.Con d types → slice_get P.datatypes d ≡ Some D →
+    chosen_of P (out-Ty T) ≡ Some (record { number = d; types = types; datatype = D })
 chosen_is P T d types D e stands = rw (e, type.outs-Con d types, stands) refl
 
 pub chosen_none : (P : Program) (T : Ty) (d : ℕ) (types : List Ty) → T ≡ type.Con d types → slice_get P.datatypes d ≡ None → chosen_of P (out-Ty T) ≡ None
@@ -136,16 +146,19 @@ shrinks old more bound count e long =
     let left : length (old ++ more) - count ≡ length old = omega (arith, length-append old more, long) in
     rw (e, left) (take-append_seam old more)
 
-pub popped : (first bound : List Ty) (i : ℕ) (T : Ty) (rest : List Ty) → bound ≡ rest ++ T ∷ [] → bound ≡ take (length first - i) first → rest ≡ take (length first - (i + 1)) first
+pub popped : (first bound : List Ty) (i : ℕ) (T : Ty) (rest : List Ty) → bound ≡ rest ++ T ∷ [] → bound ≡ take (length first - i) first →
+    rest ≡ take (length first - (i + 1)) first
 popped first bound i T rest e before =
     let whole : length (take (length first - i) first) ≡ length first - i = length-take-le (length first - i) first (omega arith) in
     let parts : length (take (length first - i) first) ≡ length rest + 1 = ap length (sym before ∙ e) ∙ length-append rest (T ∷ []) in
     let long : length rest ≡ length first - (i + 1) = omega arith in
     let at_rest : take (length rest) (take (length first - i) first) ≡ rest = ap (take (length rest)) (sym before ∙ e) ∙ take-append_seam rest (T ∷ []) in
-    let shorter : take (length rest) (take (length first - i) first) ≡ take (length rest) first = take-take (length rest) (length first - i) first (omega arith) in
+    let shorter : take (length rest) (take (length first - i) first) ≡ take (length rest) first = take-take (length rest) (length first - i) first (omega arith)
+    in
     sym at_rest ∙ shorter ∙ ap (λ (n : ℕ). take n first) long
 
-pub popped_none : (first bound : List Ty) (i : ℕ) (rest : List Ty) → bound ≡ [] → rest ≡ [] → bound ≡ take (length first - i) first → rest ≡ take (length first - (i + 1)) first
+pub popped_none : (first bound : List Ty) (i : ℕ) (rest : List Ty) → bound ≡ [] → rest ≡ [] → bound ≡ take (length first - i) first →
+    rest ≡ take (length first - (i + 1)) first
 popped_none first bound i rest e none before =
     let whole : length (take (length first - i) first) ≡ length first - i = length-take-le (length first - i) first (omega arith) in
     let nothing : length (take (length first - i) first) ≡ 0 = ap length (sym before ∙ e) in
@@ -153,15 +166,18 @@ popped_none first bound i rest e none before =
     none ∙ rw left refl
 
 -- and so it does whether or not a type was left
-pub popped_any : (first bound rest : List Ty) (i : ℕ) (o : Option Ty) → MatchOption o ((bound ≡ []) × (rest ≡ [])) (λ (last : Ty). bound ≡ rest ++ last ∷ []) → bound ≡ take (length first - i) first → rest ≡ take (length first - (i + 1)) first
+pub popped_any : (first bound rest : List Ty) (i : ℕ) (o : Option Ty) → MatchOption o ((bound ≡ []) × (rest ≡ [])) (λ (last : Ty). bound ≡ rest ++ last ∷ []) →
+    bound ≡ take (length first - i) first → rest ≡ take (length first - (i + 1)) first
 popped_any first bound rest i None h before = popped_none first bound i rest h.0 h.1 before
 popped_any first bound rest i (Some T) h before = popped first bound i T rest h before
 
 -- a stack that grows by the types of a list, as far as they were seen
-pub bound_next : (f : Ty → Ty) (old bound more looked : List Ty) (i : ℕ) (T made : Ty) → i < length looked → T ≡ get_or looked i T → made ≡ f T → more ≡ bound ++ made ∷ [] → bound ≡ old ++ map f (take i looked) → more ≡ old ++ map f (take (i + 1) looked)
+pub bound_next : (f : Ty → Ty) (old bound more looked : List Ty) (i : ℕ) (T made : Ty) → i < length looked → T ≡ get_or looked i T → made ≡ f T →
+    more ≡ bound ++ made ∷ [] → bound ≡ old ++ map f (take i looked) → more ≡ old ++ map f (take (i + 1) looked)
 bound_next f old bound more looked i T made h is e pushed before =
     let longer : take (i + 1) looked ≡ take i looked ++ get_or looked i T ∷ [] = rw add-one (take-suc looked i T h) in
-    let last : map f (take (i + 1) looked) ≡ map f (take i looked) ++ made ∷ [] = ap (map f) longer ∙ map-append f (take i looked) (get_or looked i T ∷ []) ∙ ap (λ (U : Ty). map f (take i looked) ++ U ∷ []) (ap f (sym is) ∙ sym e) in
+    let last : map f (take (i + 1) looked) ≡ map f (take i looked) ++ made ∷ [] = ap (map f) longer ∙ map-append f (take i looked) (get_or looked i T ∷ []) ∙ ap
+    (λ (U : Ty). map f (take i looked) ++ U ∷ []) (ap f (sym is) ∙ sym e) in
     pushed ∙ ap (λ (ts : List Ty). ts ++ made ∷ []) before ∙ append_assoc old (map f (take i looked)) (made ∷ []) ∙ ap (λ (ts : List Ty). old ++ ts) (sym last)
 
 -- so many slots without a body
@@ -173,8 +189,10 @@ module _ (slots : List (Option Term)) where
   pub turn_start : (left turned : List (Option Term)) → left ≡ slots → turned ≡ [] → reverse slots ≡ turned ++ reverse left
   turn_start left turned e none = rw (e, none) refl
 
-  pub turn_next : (left rest turned more : List (Option Term)) (slot : Option Term) → left ≡ rest ++ slot ∷ [] → more ≡ turned ++ slot ∷ [] → reverse slots ≡ turned ++ reverse left → reverse slots ≡ more ++ reverse rest
-  turn_next left rest turned more slot e pushed before = before ∙ rw (e, reverse-append rest (slot ∷ []), pushed, append_assoc turned (slot ∷ []) (reverse rest)) refl
+  pub turn_next : (left rest turned more : List (Option Term)) (slot : Option Term) → left ≡ rest ++ slot ∷ [] → more ≡ turned ++ slot ∷ [] →
+      reverse slots ≡ turned ++ reverse left → reverse slots ≡ more ++ reverse rest
+  turn_next left rest turned more slot e pushed before =
+      before ∙ rw (e, reverse-append rest (slot ∷ []), pushed, append_assoc turned (slot ∷ []) (reverse rest)) refl
 
   pub turn_end : (left turned : List (Option Term)) → left ≡ [] → reverse slots ≡ turned ++ reverse left → turned ≡ reverse slots
   turn_end left turned e before = sym (before ∙ rw e (append-nil turned))
@@ -183,7 +201,8 @@ module _ (slots : List (Option Term)) where
 unfoldable pub with_rest : List Term → Option (List Term) → Option (List Term)
 with_rest bodies rest = option_map (λ (ts : List Term). bodies ++ ts) rest
 
-pub fill_start : (slots turned : List (Option Term)) (bodies : List Term) → turned ≡ reverse slots → bodies ≡ [] → with_rest bodies (all_filled (reverse turned)) ≡ all_filled slots
+pub fill_start : (slots turned : List (Option Term)) (bodies : List Term) → turned ≡ reverse slots → bodies ≡ [] →
+    with_rest bodies (all_filled (reverse turned)) ≡ all_filled slots
 unfolding with_rest
 fill_start slots turned bodies e none = rw (none, e, reverse-reverse slots) (same_option (all_filled slots))
   where
@@ -191,18 +210,24 @@ fill_start slots turned bodies e none = rw (none, e, reverse-reverse slots) (sam
     same_option None = refl
     same_option (Some ts) = refl
 
-pub fill_next : (slots turned rest : List (Option Term)) (bodies more : List Term) (slot : Option Term) (body : Term) → turned ≡ rest ++ slot ∷ [] → slot ≡ Some body → more ≡ bodies ++ body ∷ [] → with_rest bodies (all_filled (reverse turned)) ≡ all_filled slots → with_rest more (all_filled (reverse rest)) ≡ all_filled slots
+pub fill_next : (slots turned rest : List (Option Term)) (bodies more : List Term) (slot : Option Term) (body : Term) → turned ≡ rest ++ slot ∷ [] →
+    slot ≡ Some body → more ≡ bodies ++ body ∷ [] → with_rest bodies (all_filled (reverse turned)) ≡ all_filled slots →
+    with_rest more (all_filled (reverse rest)) ≡ all_filled slots
 unfolding with_rest all_filled
-fill_next slots turned rest bodies more slot body e is pushed before = joined (all_filled (reverse rest)) ∙ (rw (e, reverse-append rest (slot ∷ []), is) at before)
+fill_next slots turned rest bodies more slot body e is pushed before =
+    joined (all_filled (reverse rest)) ∙ (rw (e, reverse-append rest (slot ∷ []), is) at before)
   where
-    joined : (o : Option (List Term)) → option_map (λ (ts : List Term). more ++ ts) o ≡ option_map (λ (ts : List Term). bodies ++ ts) (option_map (λ (ts : List Term). body ∷ ts) o)
+    joined : (o : Option (List Term)) →
+        option_map (λ (ts : List Term). more ++ ts) o ≡ option_map (λ (ts : List Term). bodies ++ ts) (option_map (λ (ts : List Term). body ∷ ts) o)
     joined None = refl
     joined (Some ts) = ap Some (rw pushed (append_assoc bodies (body ∷ []) ts))
 
-pub fill_fails : (slots turned rest : List (Option Term)) (bodies : List Term) (slot : Option Term) → turned ≡ rest ++ slot ∷ [] → slot ≡ None → with_rest bodies (all_filled (reverse turned)) ≡ all_filled slots → None ≡ all_filled slots
+pub fill_fails : (slots turned rest : List (Option Term)) (bodies : List Term) (slot : Option Term) → turned ≡ rest ++ slot ∷ [] → slot ≡ None →
+    with_rest bodies (all_filled (reverse turned)) ≡ all_filled slots → None ≡ all_filled slots
 unfolding with_rest all_filled
 fill_fails slots turned rest bodies slot e is before = rw (e, reverse-append rest (slot ∷ []), is) at before
 
-pub fill_end : (slots turned : List (Option Term)) (bodies : List Term) → turned ≡ [] → with_rest bodies (all_filled (reverse turned)) ≡ all_filled slots → Some bodies ≡ all_filled slots
+pub fill_end : (slots turned : List (Option Term)) (bodies : List Term) → turned ≡ [] → with_rest bodies (all_filled (reverse turned)) ≡ all_filled slots →
+    Some bodies ≡ all_filled slots
 unfolding with_rest all_filled
 fill_end slots turned bodies e before = ap Some (sym (append-nil bodies)) ∙ (rw e at before)

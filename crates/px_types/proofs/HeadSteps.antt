@@ -1,7 +1,7 @@
 -- What is called or passed, as the code tells it.
-use Rattle.std.proofs.Common.{◌≡◌, ◌↔◌, ◌⊎◌, inl, inr, ◌==◌, ◌&&◌, ◌||◌, eq-eqb, ℕ, zero, suc, ◌+◌, ◌<◌, ◌≤◌, Bool, true, false, IsTrue, List, [], ◌∷◌, ◌++◌, length, map, get_or, take, Option, Some, None, refl, sym, ◌∙◌, ap, subst, Decides, arith, add-one, add-zero, zero-add}
-use Rattle.std.specs.Prelude.{slice_get, nat_lt}
-use Rattle.std.specs.Option.{option_map}
+use Rattle.std.proofs.Common.{◌≡◌, ◌↔◌, ◌⊎◌, inl, inr, ◌==◌, ◌&&◌, ◌||◌, eq-eqb, ℕ, zero, suc, ◌+◌, ◌<◌, ◌≤◌, Bool, true, false, IsTrue, List, [], ◌∷◌, ◌++◌}
+use Rattle.std.proofs.Common.{length, map, get_or, take, Some, None, refl, sym, ◌∙◌, ap, arith, add-one, add-zero, zero-add}
+use Rattle.std.specs.Prelude.{nat_lt}
 use Rattle.std.proofs.Math.Seq.{take-suc}
 use Rattle.std.proofs.lemmas.Bool.{false≢true, lt-ltb}
 use Rattle.std.proofs.lemmas.Bool.Decides.{nat_tests}
@@ -22,7 +22,7 @@ use Rattle.px_types.specs.declared.heads.BuiltIn.{BuiltIn}
 use Rattle.px_types.specs.Faults.{Env, Counts, counts_of}
 use Rattle.px_types.specs.Scopes.{place_of}
 use Rattle.px_types.specs.Envs.{comparing}
-use Rattle.px_types.specs.Outcome.{Signature, signature_of, may_call, may_pass, same_all, are_own, stands_before, has_argument_count}
+use Rattle.px_types.specs.Outcome.{Signature, may_call, may_pass, same_all, are_own, stands_before, has_argument_count}
 use Rattle.px_types.proofs.Exact.{Every}
 use Rattle.px_types.proofs.Sameness.{ArgsHold, ty_induction, decides_same_all}
 
@@ -46,12 +46,13 @@ pub stay : (types : List Ty) → tys_instance [] types ≡ types
 stay [] = refl
 stay (T ∷ types) = λ i. stays T i ∷ stay types i
 
--- a built-in is called at no types
-pub built_in_is : (b : BuiltIn) → b ≡ comparing → ◌≡◌ {A = Signature} (record { takes = map (fn_type_instance b.types) b.takes; params = tys_instance b.types b.params; result = ty_instance b.types b.result }) (record { takes = []; params = type.Word ∷ type.Word ∷ []; result = bool_type })
-built_in_is b e = rw e (λ i. record { takes = []; params = stay (type.Word ∷ type.Word ∷ []) i; result = stays bool_type i })
+-- what takes these functions and values and gives this one, with types put in
+abbrev pub put_in : List Ty → List FnType → List Ty → Ty → Signature
+put_in types takes params T = record { takes = map (fn_type_instance types) takes; params = tys_instance types params; result = ty_instance types T }
 
--- and so is a function variable
-pub variable_is : (b : BuiltIn) (F : FnType) → b ≡ comparing → ◌≡◌ {A = Signature} (record { takes = map (fn_type_instance b.types) b.takes; params = tys_instance b.types F.params; result = ty_instance b.types F.result }) (record { takes = []; params = F.params; result = F.result })
+-- a function variable is called at no types
+pub variable_is : (b : BuiltIn) (F : FnType) → b ≡ comparing →
+    put_in b.types b.takes F.params F.result ≡ record { takes = []; params = F.params; result = F.result }
 variable_is b F e = rw e (λ i. record { takes = []; params = stay F.params i; result = stays F.result i })
 
 -- a function that is no definition may be called and passed at each place
@@ -153,7 +154,8 @@ numbers_from-last s (suc n) =
 own_last : (n : ℕ) → own_types (n + 1) ≡ own_types n ++ type.Var n ∷ []
 own_last n =
     let last : numbers_from 0 (n + 1) ≡ numbers_from 0 n ++ (0 + n) ∷ [] = rw add-one (numbers_from-last 0 n) in
-    ap (map (λ (k : ℕ). type.Var k)) last ∙ map-append (λ (k : ℕ). type.Var k) (numbers_from 0 n) ((0 + n) ∷ []) ∙ ap (λ (k : ℕ). own_types n ++ type.Var k ∷ []) (zero-add n)
+    ap (map (λ (k : ℕ). type.Var k)) last ∙ map-append (λ (k : ℕ). type.Var k) (numbers_from 0 n) ((0 + n) ∷ []) ∙ ap
+    (λ (k : ℕ). own_types n ++ type.Var k ∷ []) (zero-add n)
 
 numbers_length : (s n : ℕ) → length (numbers_from s n) ≡ n
 numbers_length s zero = refl
@@ -175,12 +177,14 @@ not_true false h = refl
 
 -- The types are those parameters, as far as they were seen.
 module _ (types looked : List Ty) (count : ℕ) (same : looked ≡ types) where
-  pub own_next : (i : ℕ) (T : Ty) (b : Bool) → i < length looked → T ≡ get_or looked i T → (IsTrue b ↔ (T ≡ type.Var i)) → b ≡ true → take i looked ≡ own_types i → take (i + 1) looked ≡ own_types (i + 1)
+  pub own_next : (i : ℕ) (T : Ty) (b : Bool) → i < length looked → T ≡ get_or looked i T → (IsTrue b ↔ (T ≡ type.Var i)) → b ≡ true →
+      take i looked ≡ own_types i → take (i + 1) looked ≡ own_types (i + 1)
   own_next i T b h is tells e before =
       let last : take (i + 1) looked ≡ take i looked ++ get_or looked i T ∷ [] = rw add-one (take-suc looked i T h) in
       last ∙ ap (λ (xs : List Ty). xs ++ get_or looked i T ∷ []) before ∙ ap (λ (U : Ty). own_types i ++ U ∷ []) (sym is ∙ tells.0 e) ∙ sym (own_last i)
 
-  pub own_fails : (i : ℕ) (T : Ty) (b : Bool) → length types ≡ count → i < length looked → T ≡ get_or looked i T → (IsTrue b ↔ (T ≡ type.Var i)) → b ≡ false → false ≡ same_all types (own_types count)
+  pub own_fails : (i : ℕ) (T : Ty) (b : Bool) → length types ≡ count → i < length looked → T ≡ get_or looked i T → (IsTrue b ↔ (T ≡ type.Var i)) → b ≡ false →
+      false ≡ same_all types (own_types count)
   own_fails i T b long h is tells e = not_true _ (λ t. false≢true (sym e ∙ tells.1 (is_own ((decides_same_all types (own_types count)).0 t))))
     where
       is_own : types ≡ own_types count → T ≡ type.Var i

@@ -1,11 +1,10 @@
 -- What is in scope at a part of a declaration, as plain data, and what is found in the stages of a part.
-use Rattle.std.specs.Prelude.{ℕ, ◌==◌, List, [], ◌∷◌, length, map, Option, Some, None, Result, Ok, slice_set}
+use Rattle.std.specs.Prelude.{ℕ, ◌==◌, List, [], ◌∷◌, length, map, Option, Some, Result, Ok, slice_set}
 use Rattle.px_base.specs.declared.raw.RawTy.{RawTy}
 use Rattle.px_base.specs.declared.raw.RawArm.{RawArm}
 use Rattle.px_terms.specs.declared.types.Ty.{Ty}
 use Rattle.px_terms.specs.declared.types.Ty.TheVariants as type
 use Rattle.px_terms.specs.declared.types.FnType.{FnType}
-use Rattle.px_terms.specs.declared.term.Term.{Term}
 use Rattle.px_terms.specs.declared.program.ConDef.{ConDef}
 use Rattle.px_terms.specs.Types.{ty_instance, tys_instance, fn_type_instance}
 use Rattle.px_terms.specs.Programs.{bool_type}
@@ -48,7 +47,11 @@ comparing = record { takes = []; params = type.Word ∷ type.Word ∷ []; result
 
 -- what is called, at its types
 abbrev pub called_in : Called → Signature
-called_in c = record { takes = map (fn_type_instance c.types.now) c.takes.now; params = tys_instance c.types.now c.params.now; result = ty_instance c.types.now c.result.now }
+called_in c = record {
+  takes = map (fn_type_instance c.types.now) c.takes.now;
+  params = tys_instance c.types.now c.params.now;
+  result = ty_instance c.types.now c.result.now;
+}
 
 -- what a scrutinee is of
 abbrev pub chosen_in : matched.Chosen → Chosen

@@ -17,4 +17,5 @@ place_of (Behind count) = behind count
 
 -- the sets are those of the properties that are declared of each definition before the place
 abbrev pub Knows : Program → Place → List PropSet → Type 0
-Knows P place known = (n : ℕ) (p : Prop) → passes (λ (set : PropSet). has_prop set p) (slice_get known n) ≡ list_any (is_property_of n p) (obligations_before P place)
+Knows P place known = (n : ℕ) (p : Prop) → passes (λ (set : PropSet). has_prop set p) (slice_get known n)
+    ≡ list_any (is_property_of n p) (obligations_before P place)

@@ -124,7 +124,11 @@ pub(crate) fn type_argument(
     };
     let is_own_met = function_met(env, own.params, own.result, own.types);
     need(is_own_met, TypeKind::Oversize, raw.at)?;
-    need(is_alike(env.alloc, &own, wanted)?, TypeKind::Mismatch, raw.at)?;
+    need(
+        is_alike(env.alloc, &own, wanted)?,
+        TypeKind::Mismatch,
+        raw.at,
+    )?;
     let knows = knows_all(env, raw.head, function.props);
     need(knows, TypeKind::LacksProperty, raw.at)?;
     Ok(Fun {

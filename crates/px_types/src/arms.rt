@@ -89,18 +89,18 @@ fn has_no_arm(slots: &Slots, con: u32) -> bool
 }
 
 /// Whether each variable of a pattern has a type within the limits, or the first that has not. It takes no memory.
-fn variables_met(
-    env: &Env<'_>,
-    vars: &Items<u32>,
-    fields: &Instances<'_>,
-) -> Result<(), TypeEnd>
+fn variables_met(env: &Env<'_>, vars: &Items<u32>, fields: &Instances<'_>) -> Result<(), TypeEnd>
     ensures { let found = each_two (variable_met (env_of env.now)) vars.now (tys_of fields.now) in MatchResult result (λ _. (all : List (Unit {0})) × (found ≡ Ok all)) (EndsAs found) }
 {
     for (number, var) in vars.as_slice().iter().enumerate() {
         let Some(ty) = at(fields.tys.as_slice(), number) else {
             return Ok(());
         };
-        need(instance_met(env, ty, fields.types), TypeKind::Oversize, *var)?;
+        need(
+            instance_met(env, ty, fields.types),
+            TypeKind::Oversize,
+            *var,
+        )?;
     }
     Ok(())
 }
@@ -185,9 +185,16 @@ pub(crate) fn with_body(slots: Slots, arm: &RawArm, found: Typed) -> Result<Slot
     requires { arm.now.con < length slots.bodies }
     ensures { Answers (filled_found slots arm.now.body.at arm.now.con found) result }
 {
-    need(is_agreed(&slots.ty, &found.ty), TypeKind::Mismatch, arm.body.at)?;
+    need(
+        is_agreed(&slots.ty, &found.ty),
+        TypeKind::Mismatch,
+        arm.body.at,
+    )?;
     let Typed { term, ty } = found;
-    let Slots { ty: _first, mut bodies } = slots;
+    let Slots {
+        ty: _first,
+        mut bodies,
+    } = slots;
     bodies.set(arm.con as usize, Some(term));
     Ok(Slots {
         ty: Some(ty),
@@ -214,10 +221,7 @@ pub(crate) fn bodies_of(
 }
 
 /// The slots, the last one first. It takes memory, and fails only where there is none.
-fn turned_of(
-    alloc: Global,
-    slots: Items<Option<Term>>,
-) -> Result<Items<Option<Term>>, NoMemory>
+fn turned_of(alloc: Global, slots: Items<Option<Term>>) -> Result<Items<Option<Term>>, NoMemory>
     ensures { IfOk result (λ turned. turned ≡ reverse slots) }
 {
     let mut left = slots;

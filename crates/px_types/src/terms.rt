@@ -5,7 +5,8 @@ ghost use Rattle.px_types.specs.Answers.{Answers};
 ghost use Rattle.px_types.specs.Envs.{arm_of, chosen_in, env_of, scrutinee_part, tys_of, variable_type_found};
 ghost use Rattle.px_types.specs.Outcomes.{along};
 ghost use Rattle.px_types.specs.Faults.{con_counts, counts_of};
-ghost use Rattle.px_types.specs.Outcome.{arm_found, call_found, con_found, has_con_counts, has_counts, match_found, no_arms, part_found, part_of, parts_found, term_found};
+ghost use Rattle.px_types.specs.Outcome.{arm_found, call_found, con_found, has_con_counts, has_counts, match_found, no_arms, part_found, part_of, parts_found, term_found, type_of_variable, variable_found};
+ghost use Rattle.px_terms.specs.declared.term.Term.TheVariants as terms;
 
 use crate::arguments::{is_instance, is_same, type_arguments};
 use crate::arms::{
@@ -18,9 +19,7 @@ use crate::heads::{built_in, can_call, counts_at, find_called};
 use crate::met::{con_met, instance_met, ty_met};
 use crate::typed::{Slots, Typed};
 use crate::types::{need, type_tys};
-use px_terms::{
-    Fun, RawArm, RawFun, RawTerm, RawTy, Term, Ty, copy_ty, copy_tys, instance_of_ty,
-};
+use px_terms::{Fun, RawArm, RawFun, RawTerm, RawTy, Term, Ty, copy_ty, copy_tys, instance_of_ty};
 use sqlite_items::{Boxed, Items, at};
 
 /// What is written of a construction besides its fields, with its first byte.
@@ -52,12 +51,7 @@ pub(crate) fn type_term(
     ensures bound { OnOk result (bound.new ≡ bound.old) }
 {
     match &raw.kind {
-        px_terms::RawKind::Free { number, types } => {
-            let stands = at(env.vars.as_slice(), *number as usize);
-            let ty = type_variable(env, stands, types, raw.at)?;
-            let term = Term::Free(*number);
-            Ok(Typed { term, ty })
-        }
+        px_terms::RawKind::Free { number, types } => type_free(env, *number, types, raw.at),
         px_terms::RawKind::Bound { number, types } => {
             let ty = type_variable(env, nearest(bound, *number), types, raw.at)?;
             let term = Term::Bound(*number);
@@ -73,8 +67,13 @@ pub(crate) fn type_term(
             types,
             fields,
         } => {
-            let (at, datatype, con) = (raw.at, *datatype, *con);
-            type_con(env, fields, &WrittenCon { at, datatype, con, types }, bound)
+            let written = WrittenCon {
+                at: raw.at,
+                datatype: *datatype,
+                con: *con,
+                types,
+            };
+            type_con(env, fields, &written, bound)
         }
         px_terms::RawKind::Call { fun, funs, args } => {
             let at = raw.at;
@@ -86,6 +85,16 @@ pub(crate) fn type_term(
             type_match(env, arms, Scrutinee { at, on_at, found }, bound)
         }
     }
+}
+
+/// A data variable with its type, or its fault. It takes memory.
+fn type_free(env: &Env<'_>, number: u32, types: &Items<RawTy>, place: u32) -> Result<Typed, TypeEnd>
+    ensures { let E = env_of env.now in Answers (variable_found E (terms.Free number) (type_of_variable E number) types.now place) result }
+{
+    let stands = at(env.vars.as_slice(), number as usize);
+    let ty = type_variable(env, stands, types, place)?;
+    let term = Term::Free(number);
+    Ok(Typed { term, ty })
 }
 
 /// The type of the pattern variable of this number, counted from the inside. It takes no memory.
@@ -111,10 +120,7 @@ fn type_variable(
 {
     need(types.len() == 0, TypeKind::Arity, at)?;
     let Some(ty) = stands else {
-        return Err(TypeEnd::Fault {
-            kind: TypeKind::Arity,
-            at,
-        });
+        return Err(fault(TypeKind::Arity, at));
     };
     need(ty_met(env, ty), TypeKind::Oversize, at)?;
     Ok(copy_ty(env.alloc, ty)?)
@@ -150,10 +156,7 @@ fn type_con(
     need(has_counts, TypeKind::Arity, written.at)?;
     let types = type_tys(env.alloc, env.program, env.tparams, written.types)?;
     let Some(con) = constructor(env, written.datatype, written.con) else {
-        return Err(TypeEnd::Fault {
-            kind: TypeKind::Arity,
-            at: written.at,
-        });
+        return Err(fault(TypeKind::Arity, written.at));
     };
     let wanted = Instances {
         tys: &con.fields,
@@ -208,10 +211,7 @@ fn type_call(
     need(can_call(env, head, &types), TypeKind::Mismatch, at)?;
     let comparison = built_in(env.alloc)?;
     let Some(called) = find_called(env, head, &types, &comparison) else {
-        return Err(TypeEnd::Fault {
-            kind: TypeKind::Arity,
-            at,
-        });
+        return Err(fault(TypeKind::Arity, at));
     };
     let funs = type_arguments(env, written.funs, called.takes, called.types)?;
     let wanted = Instances {
@@ -227,6 +227,13 @@ fn type_call(
     Ok(Typed { term, ty })
 }
 
+/// The fault that this rule is broken here.
+fn fault(kind: TypeKind, at: u32) -> TypeEnd
+    ensures { result ≡ TypeEnd.Fault kind at }
+{
+    TypeEnd::Fault { kind, at }
+}
+
 /// A match with its type, or its first fault.
 #[cycle(type_term)]
 #[tactic(auto, unfolding(crate::specs::Outcome::match_found, crate::specs::Outcomes::onward, crate::specs::Outcomes::there))]
@@ -239,21 +246,17 @@ fn type_match(
     ensures answers { Answers (match_found (env_of env.now) (reverse bound.old) scrutinee.at (scrutinee_part scrutinee) (map (arm_of (env_of env.now)) arms.now)) result }
     ensures bound { OnOk result (bound.new ≡ bound.old) }
 {
-    let Scrutinee { at: place, on_at, found } = scrutinee;
-    let Typed { term, ty } = found;
-    let no_datatype = TypeEnd::Fault {
-        kind: TypeKind::Mismatch,
-        at: on_at,
-    };
-    let no_arm = TypeEnd::Fault {
-        kind: TypeKind::ArmMissing,
+    let Scrutinee {
         at: place,
-    };
+        on_at,
+        found,
+    } = scrutinee;
+    let Typed { term, ty } = found;
     let Some(parts) = parts_of(ty) else {
-        return Err(no_datatype);
+        return Err(fault(TypeKind::Mismatch, on_at));
     };
     let Some(datatype) = at(env.program.datatypes.as_slice(), parts.number as usize) else {
-        return Err(no_datatype);
+        return Err(fault(TypeKind::Mismatch, on_at));
     };
     let chosen = Chosen {
         number: parts.number,
@@ -262,10 +265,10 @@ fn type_match(
     };
     let Slots { ty, bodies } = type_arms(env, arms, &chosen, bound)?;
     let Some(bodies) = bodies_of(env.alloc, bodies)? else {
-        return Err(no_arm);
+        return Err(fault(TypeKind::ArmMissing, place));
     };
     let Some(ty) = ty else {
-        return Err(no_arm);
+        return Err(fault(TypeKind::ArmMissing, place));
     };
     let term = Term::Match {
         on: Boxed::new(env.alloc, term)?,

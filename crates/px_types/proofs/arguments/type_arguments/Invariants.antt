@@ -7,4 +7,6 @@ use Rattle.px_types.proofs.Loops.{after}
 use Rattle.px_types.proofs.arguments.type_arguments.Given as goal
 
 abbrev pub invariant-loop-number : goal.invariant-loop-number
-invariant-loop-number l = after l.funs (each_two (argument_found (env_of l.env)) (drop l.number l.raws) (drop l.number (map (fn_type_instance l.types) l.takes))) ≡ each_two (argument_found (env_of l.env)) l.raws (map (fn_type_instance l.types) l.takes)
+invariant-loop-number l =
+    after l.funs (each_two (argument_found (env_of l.env)) (drop l.number l.raws) (drop l.number (map (fn_type_instance l.types) l.takes))) ≡ each_two
+    (argument_found (env_of l.env)) l.raws (map (fn_type_instance l.types) l.takes)

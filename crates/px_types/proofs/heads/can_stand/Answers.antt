@@ -6,7 +6,9 @@ pub returns-then-not-can_pass : goal.returns-then-not-can_pass
 returns-then-not-can_pass c = unpassed (env_of c.args.env.now) c.args.raw.now c.can_pass.result c.can_pass.ensures c.if-not-can_pass.true
 
 pub returns-in-Some : goal.returns-in-Some
-returns-in-Some c = counted (env_of c.args.env.now) c.args.raw.now c.can_pass.result c.can_pass.ensures c.if-not-can_pass.false (counts_in c.in-Some.taken) c.len.result c.in-Some.ensures c.len.ensures
+returns-in-Some c =
+    counted (env_of c.args.env.now) c.args.raw.now c.can_pass.result c.can_pass.ensures c.if-not-can_pass.false (counts_in c.in-Some.taken) c.len.result
+    c.in-Some.ensures c.len.ensures
 
 pub returns-in-None : goal.returns-in-None
 returns-in-None c = no_counts (env_of c.args.env.now) c.args.raw.now c.can_pass.result c.can_pass.ensures c.if-not-can_pass.false c.in-None.ensures
