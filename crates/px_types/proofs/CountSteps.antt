@@ -1,6 +1,33 @@
 -- How many obligations, definitions and lemmas there are of the declarations so far: few enough to be numbered.
-use Rattle.std.proofs.Common.{◌≡◌, ℕ, suc, ◌+◌, ◌<◌, ◌≤◌, ◌^◌, List, [], ◌∷◌, ◌++◌, length, map, take, get_or, Option, Some, None, Result, Ok, Err, refl, ◌∙◌,
-    ap, subst, arith, length-append}
+use Rattle.std.proofs.Common.{
+  ◌≡◌,
+  ℕ,
+  suc,
+  ◌+◌,
+  ◌<◌,
+  ◌≤◌,
+  ◌^◌,
+  List,
+  [],
+  ◌∷◌,
+  ◌++◌,
+  length,
+  map,
+  take,
+  get_or,
+  Option,
+  Some,
+  None,
+  Result,
+  Ok,
+  Err,
+  refl,
+  ◌∙◌,
+  ap,
+  subst,
+  arith,
+  length-append,
+}
 use Rattle.std.specs.Prelude.{sum, slice_get}
 use Rattle.std.proofs.lemmas.List.{take_all, map_more}
 use Rattle.std.proofs.lemmas.List.Sums.{sum_by-cons, sum_by-append}
@@ -102,20 +129,29 @@ module _ (P Q : Program) where
   unfolding equations_found
   lemma_grows l =
       ends_at _ _ Q (Grown P 1 Q) (λ heading. ends_at _ _ Q (Grown P 1 Q) (λ premises. ends_at _ _ Q (Grown P 1 Q)
-          (λ conclusion. at_ok (Grown P 1) _ Q (record {
+      (λ conclusion. at_ok (Grown P 1) _ Q (record {
         declared = length-append P.declared (declared.Lemma (length P.lemmas) ∷ []);
         defs = omega arith;
         lemmas =
-            omega (arith, length-append P.lemmas (record { tparams = l.tparams; funs = heading.funs; vars = heading.vars; premises = premises; conclusion =
-            conclusion } ∷ []));
+            omega (
+              arith,
+              length-append P.lemmas (record {
+                tparams = l.tparams;
+                funs = heading.funs;
+                vars = heading.vars;
+                premises = premises;
+                conclusion =
+                    conclusion;
+              } ∷ []),
+            );
       }))))
 
   replica_grows : (r : RawReplica) → merge_found P r ≡ Ok Q → Grown P 0 Q
   unfolding merge_found
   replica_grows r =
       ends_at _ _ Q (Grown P 0 Q) (λ state. ends_at _ _ Q (Grown P 0 Q) (λ from. ends_at _ _ Q (Grown P 0 Q)
-          (λ done. ends_at _ _ Q (Grown P 0 Q) (λ types. ends_at _ _ Q (Grown P 0 Q) (λ s. ends_at _ _ Q (Grown P 0 Q)
-          (λ funs. ends_at _ _ Q (Grown P 0 Q) (λ joins. at_ok (Grown P 0) _ Q (same_grown P _ refl refl refl))))))))
+      (λ done. ends_at _ _ Q (Grown P 0 Q) (λ types. ends_at _ _ Q (Grown P 0 Q) (λ s. ends_at _ _ Q (Grown P 0 Q)
+      (λ funs. ends_at _ _ Q (Grown P 0 Q) (λ joins. at_ok (Grown P 0) _ Q (same_grown P _ refl refl refl))))))))
 
   nothing_grows : ◌≡◌ {A = Result Program Broken} (Ok P) (Ok Q) → Grown P 0 Q
   nothing_grows = at_ok (Grown P 0) P Q (same_grown P P refl refl refl)
@@ -178,12 +214,12 @@ in_order raw C _ (fitting.datatype {n = n} {rest = rest} same at is others) =
     omega (arith, in_order raw _ rest others, sum-cons (added raw) (decl.Datatype n) rest)
 in_order raw C _ (fitting.definition {n = n} {raw = d} {rest = rest} same at is others) =
     let more : def_props (take (C.defs + 1) raw.defs) ≡ def_props (take C.defs raw.defs) + length d.props = sum_more (λ (e : RawDef). length e.props) raw.defs
-        C.defs d (rw same at at) in
+    C.defs d (rw same at at) in
     let here : added raw (decl.Definition n) ≡ length d.props = ap props_in at in
     omega (arith, in_order raw _ rest others, sum-cons (added raw) (decl.Definition n) rest, more, here)
 in_order raw C _ (fitting.claim {n = n} {raw = c} {rest = rest} same at is others) =
     let more : claim_props (take (C.claims + 1) raw.claims) ≡ claim_props (take C.claims raw.claims) + length c.props = sum_more
-        (λ (e : RawClaim). length e.props) raw.claims C.claims c (rw same at at) in
+    (λ (e : RawClaim). length e.props) raw.claims C.claims c (rw same at at) in
     let here : added raw (decl.Claim n) ≡ length c.props = ap claims_in at in
     omega (arith, in_order raw _ rest others, sum-cons (added raw) (decl.Claim n) rest, more, here)
 in_order raw C _ (fitting.lemma {n = n} {rest = rest} same at is others) =

@@ -29,7 +29,7 @@ module _ (P : Program) (d : RawData) where
       Answers (each (constructor_found (record P { datatypes = all }) d.tparams) d.cons) r → Answers own_found r
   own_answers all none r empty pushed h =
       let e : all ≡ P.datatypes ++ without_constructors d ∷ [] = pushed ∙ ap (λ (cons : List ConDef). P.datatypes ++ record { tparams = d.tparams; cons = cons }
-          ∷ []) empty in
+      ∷ []) empty in
       subst (λ (xs : List DataDef). Answers (each (constructor_found (record P { datatypes = xs }) d.tparams) d.cons) r) e h
 
   whole_is : datatype_found P d ≡ onward own_found (λ (cons : List ConDef). Ok (with_datatype P (record { tparams = d.tparams; cons = cons })))
@@ -56,5 +56,7 @@ module _ (P : Program) (d : RawData) where
 pub took_datatype : (P : Program) (d : RawData) (Q : Program) (all : List DataDef) (cons : List ConDef) → own_found P d ≡ Ok cons → Q ≡ P →
     all ≡ Q.datatypes ++ record { tparams = d.tparams; cons = cons } ∷ [] → datatype_found P d ≡ Ok (record Q { datatypes = all })
 took_datatype P d Q all cons is same pushed =
-    datatype_ok P d cons is ∙ ap Ok (λ i. record (sym same i) { datatypes = (ap (λ (R : Program). R.datatypes ++ record { tparams = d.tparams; cons = cons } ∷
-        []) (sym same) ∙ sym pushed) i })
+    datatype_ok P d cons is ∙ ap Ok (λ i. record (sym same i) {
+      datatypes = (ap (λ (R : Program). R.datatypes ++ record { tparams = d.tparams; cons = cons } ∷
+          []) (sym same) ∙ sym pushed) i;
+    })

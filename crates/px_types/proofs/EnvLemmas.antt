@@ -33,4 +33,4 @@ module _ (P : Program) (notes : List PropSet) (are : AreNotes P.declared notes) 
       are.are n p
       ∙ ap (λ (xs : List Declared). list_any (is_property_of n p) xs) (sym (take_all D.seen P.declared (omega arith)))
       ∙ ap (λ (o : Option definition.Def). list_any (is_property_of n p) (elim o as (λ _. List Declared) [ None ↦ [] | Some E ↦ take E.seen P.declared ]))
-          (sym (last_of P.defs defs D number e f))
+      (sym (last_of P.defs defs D number e f))

@@ -19,8 +19,17 @@ use Rattle.px_types.specs.Answers.{EndsAs, Answers}
 use Rattle.px_types.specs.Outcomes.{onward, needs, each}
 use Rattle.px_types.specs.Outcome.{tys_found, term_found, part_found, part_of}
 use Rattle.px_types.specs.Declarations.{with_lemma}
-use Rattle.px_types.specs.NextOutcome.{Heading, fn_types_found, lemma_heading_found, is_few, assumed_found, variables_found, equation_found, heading_env,
-    equations_found}
+use Rattle.px_types.specs.NextOutcome.{
+  Heading,
+  fn_types_found,
+  lemma_heading_found,
+  is_few,
+  assumed_found,
+  variables_found,
+  equation_found,
+  heading_env,
+  equations_found,
+}
 use Rattle.px_types.specs.Checkings.{heading_of}
 use Rattle.px_types.proofs.Stages.{stage, stage_fails}
 
@@ -109,8 +118,14 @@ module _ (P : Program) (l : RawLemma) where
     premises_is =
         stage _ _ equations_is (heading_of v) is
         ∙ ap (λ (E : Env). onward (each (equation_found E) l.premises) (λ (premises : List Equation). onward (equation_found E l.conclusion)
-            (λ (conclusion : Equation). Ok (with_lemma P (record { tparams = l.tparams; funs = v.funs; vars = v.vars; premises = premises; conclusion =
-            conclusion }))))) (sym stands_is)
+        (λ (conclusion : Equation). Ok (with_lemma P (record {
+          tparams = l.tparams;
+          funs = v.funs;
+          vars = v.vars;
+          premises = premises;
+          conclusion =
+              conclusion;
+        }))))) (sym stands_is)
 
     pub premises_fail : (end : TypeEnd) → EndsAs (each (equation_found (stands v count)) l.premises) end → EndsAs (equations_found P l) end
     premises_fail end h = stage_fails _ _ _ premises_is end h

@@ -19,4 +19,4 @@ pub prop_answers : (P : Program) (funs : List FnType) (h : Head) (raw : RawProp)
 unfolding prop_found
 prop_answers P funs h raw fit r tells answers =
     subst (λ (b : Bool). Answers (needs b PropertyShape raw.at) r) (same_from_decides fit (fits P funs h raw.prop) (tells.0, tells.1)
-        (decides_fits P funs h raw.prop)) answers
+    (decides_fits P funs h raw.prop)) answers

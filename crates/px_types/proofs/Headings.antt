@@ -33,15 +33,22 @@ pub fn_type_ok : (P : Program) (tparams : ℕ) (raw : RawFnType) (params : List 
 unfolding fn_type_found
 fn_type_ok P tparams raw params given props set are is same set_is =
     stage (ty_found P tparams raw.result) (λ (T : Ty). Ok (record { params = params; result = T; props = set_of (props_of raw.props) }))
-        (stage (tys_found P tparams raw.params) (λ (ps : List Ty). onward (ty_found P tparams raw.result)
-        (λ (T : Ty). Ok (record { params = ps; result = T; props = set_of (props_of raw.props) }))) refl params are) given is
+    (stage (tys_found P tparams raw.params) (λ (ps : List Ty). onward (ty_found P tparams raw.result)
+    (λ (T : Ty). Ok (record { params = ps; result = T; props = set_of (props_of raw.props) }))) refl params are) given is
     ∙ ap (λ (s : PropSet). Ok (record { params = params; result = given; props = s })) (sym (set_is ∙ ap (λ (xs : List RawProp). set_of (props_of xs)) same))
 
 -- the heading of a definition, by its parts
 module _ (P : Program) (d : RawDef) where
   heading_is : heading_found P d ≡ onward (fn_types_found P d.tparams d.funs) (λ (funs : List FnType). onward (tys_found P d.tparams d.params)
-      (λ (params : List Ty). onward (ty_found P d.tparams d.result) (λ (given : Ty). Ok (record { tparams = d.tparams; funs = funs; params = params; result =
-      given; body = term.Lit 0; seen = length P.declared }))))
+      (λ (params : List Ty). onward (ty_found P d.tparams d.result) (λ (given : Ty). Ok (record {
+        tparams = d.tparams;
+        funs = funs;
+        params = params;
+        result =
+            given;
+        body = term.Lit 0;
+        seen = length P.declared;
+      }))))
   unfolding heading_found
   heading_is = refl
 
@@ -69,8 +76,15 @@ pub record IsHeading (P : Program) (D : definition.Def) : Type 0 where
 
 heading_parts : (P : Program) (d : RawDef) (D : definition.Def) (funs : Result (List FnType) Broken) (params : Result (List Ty) Broken)
     (given : Result Ty Broken) →
-    onward funs (λ fs. onward params (λ ps. onward given (λ T. Ok (record { tparams = d.tparams; funs = fs; params = ps; result = T; body = term.Lit 0; seen =
-        length P.declared })))) ≡ Ok D → IsHeading P D
+    onward funs (λ fs. onward params (λ ps. onward given (λ T. Ok (record {
+      tparams = d.tparams;
+      funs = fs;
+      params = ps;
+      result = T;
+      body = term.Lit 0;
+      seen =
+          length P.declared;
+    })))) ≡ Ok D → IsHeading P D
 unfolding onward
 heading_parts P d D (Ok fs) (Ok ps) (Ok T) e = record {
   body = ap (λ (E : definition.Def). E.body) (sym (one_ok e));
@@ -150,8 +164,12 @@ module _ (P : Program) (d : RawDef) where
       own_env (record P { defs = defs }) n D ≡ body_env P D
   own_is D defs n is pushed number =
       let e : D ≡ without_body D = λ i. record D { body = (is_heading P d D is).body i } in
-      λ i. record { program = record P { defs = (pushed ∙ ap (λ (E : definition.Def). P.defs ++ E ∷ []) e) i }; place = in_body (number i); context =
-          own_context D }
+      λ i. record {
+        program = record P { defs = (pushed ∙ ap (λ (E : definition.Def). P.defs ++ E ∷ []) e) i };
+        place = in_body (number i);
+        context =
+            own_context D;
+      }
 
   own_part : (D : definition.Def) (defs : List definition.Def) (n : ℕ) → heading_found P d ≡ Ok D → defs ≡ P.defs ++ D ∷ [] → n ≡ length P.defs →
       part_found (own_env (record P { defs = defs }) n D) [] (part_of (own_env (record P { defs = defs }) n D) d.body) D.result ≡ part_found (body_env P D) []
@@ -170,5 +188,5 @@ module _ (P : Program) (d : RawDef) where
       body_found P d ≡ Ok (with_whole P d made)
   body_ok D defs after n last made body is pushed number found popped made_is =
       let same : made ≡ record D { body = body } = made_is ∙ ap (λ (E : definition.Def). record E { body = body })
-          (same_last P.defs defs after D last pushed popped) in
+      (same_last P.defs defs after D last pushed popped) in
       stage _ _ (body_is D is) body (sym (own_part D defs n is pushed number) ∙ found) ∙ ap (λ (E : definition.Def). Ok (with_whole P d E)) (sym same)

@@ -14,8 +14,19 @@ use Rattle.px_types.specs.declared.ends.TypeEnd.{TypeEnd}
 use Rattle.px_types.specs.Faults.{Broken}
 use Rattle.px_types.specs.Answers.{Answers}
 use Rattle.px_types.specs.Declarations.{with_obligations, obligations_of}
-use Rattle.px_types.specs.NextOutcome.{datatype_found, signature_found, body_found, claim_found, variables_found, equations_found, state_found, merge_found,
-    checked, types_found, terms_found}
+use Rattle.px_types.specs.NextOutcome.{
+  datatype_found,
+  signature_found,
+  body_found,
+  claim_found,
+  variables_found,
+  equations_found,
+  state_found,
+  merge_found,
+  checked,
+  types_found,
+  terms_found,
+}
 use Rattle.px_types.specs.Checkings.{Takes}
 
 -- the answer of an outcome is that of the same outcome
@@ -91,7 +102,7 @@ module _ (raw : RawProgram) (P : Program) (next : Decl) (n : ℕ) where
   claim_terms_at o e at =
       ap (λ (d : Decl). terms_found raw P d) e
       ∙ ap (λ (p : Option RawClaim). elim p as (λ _. Result (Program) Broken) [ None ↦ Ok P | Some x ↦ Ok (with_obligations P (obligations_of x.def x.props)) ])
-          (sym at)
+      (sym at)
 
   pub claim_types : (x : RawClaim) → next ≡ decl.Claim n → Some x ≡ slice_get raw.claims n → types_found raw P next ≡ claim_found P x
   claim_types x e at = claim_types_at (Some x) e at

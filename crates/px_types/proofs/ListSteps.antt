@@ -30,7 +30,7 @@ module _ (before now : List Declared) (def : ℕ) (raws : List RawProp) (i : ℕ
       ∙ ap (λ (xs : List Declared). xs ++ declared.Property def (get_or raws i d).prop ∷ []) so_far
       ∙ append_assoc before (obligations_of def (take i raws)) (declared.Property def (get_or raws i d).prop ∷ [])
       ∙ ap (λ (xs : List Declared). before ++ xs) (sym (ap (obligations_of def) (take_more raws i d below) ∙ obligations_push def (take i raws)
-          (get_or raws i d)))
+      (get_or raws i d)))
 
   pub properties_pushed : length raws ≤ i → now ≡ before ++ obligations_of def raws
   properties_pushed past = so_far ∙ ap (λ (xs : List RawProp). before ++ obligations_of def xs) (take_all i raws past)

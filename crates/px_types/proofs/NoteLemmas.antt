@@ -1,6 +1,35 @@
 -- What the notes say of the properties of each definition, as they grow.
-use Rattle.std.proofs.Common.{◌≡◌, ◌⊎◌, ℕ, zero, suc, ◌<◌, ◌≤◌, ◌+◌, Bool, true, false, cond, eqb, ◌&&◌, ◌||◌, List, [], ◌∷◌, ◌++◌, length, take, get_or, Some,
-    refl, sym, ◌∙◌, ap, subst, Decides}
+use Rattle.std.proofs.Common.{
+  ◌≡◌,
+  ◌⊎◌,
+  ℕ,
+  zero,
+  suc,
+  ◌<◌,
+  ◌≤◌,
+  ◌+◌,
+  Bool,
+  true,
+  false,
+  cond,
+  eqb,
+  ◌&&◌,
+  ◌||◌,
+  List,
+  [],
+  ◌∷◌,
+  ◌++◌,
+  length,
+  take,
+  get_or,
+  Some,
+  refl,
+  sym,
+  ◌∙◌,
+  ap,
+  subst,
+  Decides,
+}
 use Rattle.std.specs.Prelude.{slice_get, slice_set, ◌==◌, ◌↔◌}
 use Rattle.std.specs.List.{list_any}
 use Rattle.std.proofs.Math.Dec.{eqb-suc-zero, eqb-zero-suc, eqb-suc-suc}
@@ -53,7 +82,7 @@ pub one_more : (set with_one : PropSet) (q : Prop) → ((p : Prop) → HasProp w
     has_prop with_one p ≡ (has_prop set p || same_prop p q)
 one_more set with_one q is p =
     same_from_decides (has_prop with_one p) (has_prop set p || same_prop p q) ((is p).0, (is p).1) (Decides-or (has_prop set p) (same_prop p q) (λ e. e, λ e. e)
-        (decides_prop p q))
+    (decides_prop p q))
 
 -- the properties so far of a list
 abbrev pub among_first : ℕ → List RawProp → Prop → Bool
@@ -80,7 +109,7 @@ pub among_all : (raws : List RawProp) (i : ℕ) (old set : PropSet) → length r
     (p : Prop) → has_prop set p ≡ (has_prop old p || is_among (props_of raws) p)
 among_all raws i old set past before p =
     before p ∙ ap (λ (b : Bool). has_prop old p || b) (ap (λ (xs : List RawProp). list_any (λ (raw : RawProp). same_prop p raw.prop) xs) (take_all i raws past)
-        ∙ among_written p raws)
+    ∙ among_written p raws)
 
 -- the set that stands for a definition is another one
 pub noted_set : (notes : List PropSet) (def : ℕ) (old set : PropSet) (test : Prop → Bool) → slice_get notes def ≡ Some old →
@@ -173,7 +202,7 @@ pub all_noted : (notes looked new : List PropSet) (def : ℕ) (d set : PropSet) 
     (n : ℕ) (p : Prop) → is_noted new n p ≡ (is_noted notes n p || (def == n && is_among (props_of raws) p))
 all_noted notes looked new def d set raws i same below past is e n p =
     let stands : slice_get notes def ≡ Some (get_or looked def d) = slice_get-get_or notes def d below ∙ ap (λ (xs : List PropSet). Some (get_or xs def d))
-        (sym same) in
+    (sym same) in
     ap (λ (xs : List PropSet). is_noted xs n p) e
     ∙ noted_set notes def (get_or looked def d) set (is_among (props_of raws)) stands (among_all raws i (get_or looked def d) set past is) n p
 

@@ -1,6 +1,37 @@
 -- What is found of a replica, by the stages of the code.
-use Rattle.std.proofs.Common.{◌≡◌, ◌⊎◌, inl, inr, ℕ, ◌≤◌, ◌<◌, Bool, true, false, ◌&&◌, List, [], ◌∷◌, length, map, get_or, Option, Some, None, Result, Ok, Err,
-    refl, sym, ◌∙◌, ap, subst, arith, IsTrue, IfOk}
+use Rattle.std.proofs.Common.{
+  ◌≡◌,
+  ◌⊎◌,
+  inl,
+  inr,
+  ℕ,
+  ◌≤◌,
+  ◌<◌,
+  Bool,
+  true,
+  false,
+  ◌&&◌,
+  List,
+  [],
+  ◌∷◌,
+  length,
+  map,
+  get_or,
+  Option,
+  Some,
+  None,
+  Result,
+  Ok,
+  Err,
+  refl,
+  sym,
+  ◌∙◌,
+  ap,
+  subst,
+  arith,
+  IsTrue,
+  IfOk,
+}
 use Rattle.std.specs.Prelude.{slice_get, reverse, ◌↔◌}
 use Rattle.std.specs.Option.{option_map}
 use Rattle.std.proofs.lemmas.Bool.{false≢true, false_from_ne_true}
@@ -71,14 +102,17 @@ stands_of : (E : Env) (h : Head) (types : List Ty) (test : Counts → Bool) → 
 unfolding signature_of
 stands_of E (Def n) types test e =
     let found = of_option test (λ (D : definition.Def). record { types = D.tparams; functions = length D.funs; values = length D.params })
-        (λ (D : definition.Def). record { takes = map (fn_type_instance types) D.funs; params = tys_instance types D.params; result = ty_instance types D.result
-        }) (slice_get E.program.defs n) e in
+    (λ (D : definition.Def). record {
+      takes = map (fn_type_instance types) D.funs;
+      params = tys_instance types D.params;
+      result = ty_instance types D.result;
+    }) (slice_get E.program.defs n) e in
     record { s = found.0; is = found.1 }
 stands_of E Wle types test e = record { s = record { takes = []; params = type.Word ∷ type.Word ∷ []; result = bool_type }; is = refl }
 stands_of E Weq types test e = record { s = record { takes = []; params = type.Word ∷ type.Word ∷ []; result = bool_type }; is = refl }
 stands_of E (FnVar i) types test e =
     let found = of_option test (λ (F : FnType). record { types = 0; functions = 0; values = length F.params })
-        (λ (F : FnType). record { takes = []; params = F.params; result = F.result }) (slice_get E.context.funs i) e in
+    (λ (F : FnType). record { takes = []; params = F.params; result = F.result }) (slice_get E.context.funs i) e in
     record { s = found.0; is = found.1 }
 
 module _ (P : Program) (r : RawReplica) where
@@ -148,12 +182,12 @@ module _ (P : Program) (r : RawReplica) where
           functions_is =
               stage _ _ types_is types are
               ∙ ap (λ (F : Env). onward (there (signature_of F r.merge.head types) Arity r.merge.at) (λ (s : Signature). onward
-                  (arguments_found F r.funs s.takes) (λ (funs : List Fun). onward (needs (is_joining P r.merge.head s T) NotJoin r.merge.at)
-                  (λ (_ : Unit {0}). Ok (with_replica P (joined types funs)))))) (sym here)
+              (arguments_found F r.funs s.takes) (λ (funs : List Fun). onward (needs (is_joining P r.merge.head s T) NotJoin r.merge.at)
+              (λ (_ : Unit {0}). Ok (with_replica P (joined types funs)))))) (sym here)
               ∙ stage (there (signature_of E r.merge.head types) Arity r.merge.at) (λ (s : Signature). onward (arguments_found E r.funs s.takes)
-                  (λ (funs : List Fun). onward (needs (is_joining P r.merge.head s T) NotJoin r.merge.at)
-                  (λ (_ : Unit {0}). Ok (with_replica P (joined types funs))))) refl stands_here.s (ap (λ (o : Option Signature). there o Arity r.merge.at)
-                  stands_here.is)
+              (λ (funs : List Fun). onward (needs (is_joining P r.merge.head s T) NotJoin r.merge.at)
+              (λ (_ : Unit {0}). Ok (with_replica P (joined types funs))))) refl stands_here.s (ap (λ (o : Option Signature). there o Arity r.merge.at)
+              stands_here.is)
 
           pub functions_fail : (end : TypeEnd) → EndsAs (arguments_found E r.funs stands_here.s.takes) end → EndsAs (merge_rest P r T from) end
           functions_fail end h = stage_fails _ _ _ functions_is end h
@@ -261,12 +295,19 @@ module _ (E : Env) (h : Head) (types : List Ty) (s : Signature) (is : signature_
       s ≡ record { takes = map (fn_type_instance types) D.funs; params = tys_instance types D.params; result = ty_instance types D.result }
   unfolding signature_of
   definition_is n D e at =
-      let found : Some s ≡ Some (record { takes = map (fn_type_instance types) D.funs; params = tys_instance types D.params; result = ty_instance types D.result
-          }) =
+      let found : Some s ≡ Some (record {
+        takes = map (fn_type_instance types) D.funs;
+        params = tys_instance types D.params;
+        result = ty_instance types D.result;
+      }) =
       sym is
       ∙ ap (λ (k : Head). signature_of E k types) e
-      ∙ ap (option_map (λ (C : definition.Def). record { takes = map (fn_type_instance types) C.funs; params = tys_instance types C.params; result = ty_instance
-          types C.result })) (sym at) in
+      ∙ ap (option_map (λ (C : definition.Def). record {
+        takes = map (fn_type_instance types) C.funs;
+        params = tys_instance types C.params;
+        result = ty_instance
+            types C.result;
+      })) (sym at) in
       cc
 
   no_definition : (n : ℕ) → h ≡ Def n → None ≡ slice_get E.program.defs n → ⊥
@@ -275,8 +316,12 @@ module _ (E : Env) (h : Head) (types : List Ty) (s : Signature) (is : signature_
       let found : Some s ≡ None =
       sym is
       ∙ ap (λ (k : Head). signature_of E k types) e
-      ∙ ap (option_map (λ (C : definition.Def). record { takes = map (fn_type_instance types) C.funs; params = tys_instance types C.params; result = ty_instance
-          types C.result })) (sym at) in
+      ∙ ap (option_map (λ (C : definition.Def). record {
+        takes = map (fn_type_instance types) C.funs;
+        params = tys_instance types C.params;
+        result = ty_instance
+            types C.result;
+      })) (sym at) in
       cc
 
   -- the functions that it is given
@@ -312,7 +357,7 @@ module _ (E : Env) (h : Head) (types : List Ty) (s : Signature) (is : signature_
   compares e state =
       words_no_join state (has_wanted (replica_env E.program) h (set_of (Comm ∷ Assoc ∷ Idem ∷ [])))
       ∙ ap (λ (t : Signature). (same_all t.params (state ∷ state ∷ []) && same t.result state) && has_wanted (replica_env E.program) h
-          (set_of (Comm ∷ Assoc ∷ Idem ∷ []))) (sym e)
+      (set_of (Comm ∷ Assoc ∷ Idem ∷ []))) (sym e)
 
   pub other_joins_nothing : E ≡ replica_env E.program → IsOther h → (state : Ty) → false ≡ is_joining E.program h s state
   unfolding signature_of
@@ -335,9 +380,9 @@ module _ (E : Env) (h : Head) (types : List Ty) (s : Signature) (is : signature_
     joining_is n D known e at says knows =
         (λ i. says i && knows i)
         ∙ ap (λ (F : Env). (same_all (tys_instance types D.params) (state ∷ state ∷ []) && same (ty_instance types D.result) state) && has_wanted F h
-            (set_of (Comm ∷ Assoc ∷ Idem ∷ []))) alone
+        (set_of (Comm ∷ Assoc ∷ Idem ∷ []))) alone
         ∙ ap (λ (t : Signature). (same_all t.params (state ∷ state ∷ []) && same t.result state) && has_wanted (replica_env E.program) h
-            (set_of (Comm ∷ Assoc ∷ Idem ∷ []))) (sym (definition_is n D e at))
+        (set_of (Comm ∷ Assoc ∷ Idem ∷ []))) (sym (definition_is n D e at))
 
     pub joining : (n : ℕ) (D : definition.Def) (known : Bool) → h ≡ Def n → Some D ≡ slice_get E.program.defs n →
         joins ≡ (same_all (tys_instance types D.params) (state ∷ state ∷ []) && same (ty_instance types D.result) state) →
@@ -351,7 +396,7 @@ module _ (E : Env) (h : Head) (types : List Ty) (s : Signature) (is : signature_
         joins ≡ is_joining E.program h s state
     not_joining n D e at says fails =
         fails ∙ ap (λ (b : Bool). b && has_wanted E h (set_of (Comm ∷ Assoc ∷ Idem ∷ []))) (sym fails) ∙ joining_is n D
-            (has_wanted E h (set_of (Comm ∷ Assoc ∷ Idem ∷ []))) e at says refl
+        (has_wanted E h (set_of (Comm ∷ Assoc ∷ Idem ∷ []))) e at says refl
 
 pub ok_as : {E : Type 0} (r : Result Bool E) (x y : Bool) → x ≡ y → IfOk r (λ (b : Bool). b ≡ x) → IfOk r (λ (b : Bool). b ≡ y)
 ok_as (Ok b) x y e is = is ∙ e
@@ -363,4 +408,4 @@ pub seen_as : (P : Program) (r : RawReplica) (T : Ty) (from : Term) (types : Lis
     out ≡ Ok (with_replica P (record { state = T; from = from; merge = record { head = r.merge.head; types = types }; funs = funs; seen = count }))
 seen_as P r T from types funs count here e =
     e ∙ ap (λ (n : ℕ). Ok (with_replica P (record { state = T; from = from; merge = record { head = r.merge.head; types = types }; funs = funs; seen = n })))
-        (sym here)
+    (sym here)

@@ -31,7 +31,7 @@ impl Model for Checking {
 }
 
 impl Checking {
-    ghost use Rattle.std.specs.Prelude.{◌≡◌, slice_get, Some, IfOk, OnErr};
+    ghost use Rattle.std.specs.Prelude.{◌≡◌, slice_get, Some, None, IsOk, IfOk, OnErr};
     ghost use Rattle.px_base.specs.declared.raw.Decl.{Decl as AnyDecl};
     ghost use Rattle.px_types.specs.Answers.{Answers};
     ghost use Rattle.px_types.specs.Checkings.{AreFew, Takes};
@@ -57,6 +57,7 @@ impl Checking {
         requires { AreFew self.old }
         ensures same { self.new ≡ self.old }
         ensures answers { (declaration : AnyDecl) → slice_get raw.now.order number ≡ Some declaration → Answers (types_found raw.now self.old declaration) result }
+        ensures absent { slice_get raw.now.order number ≡ None → IsOk result }
     {
         let alloc = self.alloc;
         match at(raw.order.as_slice(), number as usize) {
@@ -71,6 +72,7 @@ impl Checking {
         requires { AreFew self.old }
         ensures same { OnErr result (self.new ≡ self.old) }
         ensures answers { (declaration : AnyDecl) → slice_get raw.now.order number ≡ Some declaration → Takes (terms_found raw.now self.old declaration) self.new result }
+        ensures absent { slice_get raw.now.order number ≡ None → IsOk result × (self.new ≡ self.old) }
     {
         let alloc = self.alloc;
         match at(raw.order.as_slice(), number as usize) {

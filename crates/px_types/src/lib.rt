@@ -1,6 +1,11 @@
 //! Typing: a written program, with its places in the text, becomes the typed program of the same declarations, or has a
 //! first fault. The relation of typing stands in `px_terms`; here stands which typed declaration a written one is
 //! (`specs/Written.antt`), and which fault is its first (`specs/Faults.antt`).
+//!
+//! `check_types` answers exactly that program, or exactly that fault. `Checking` does so one declaration at a time: of each
+//! first what it says of types and properties, and then its terms. Each function answers what is found of its part
+//! (`specs/Outcome.antt`, `specs/NextOutcome.antt`), and laws say that this is what the rules say (`specs/Laws.antt`,
+//! `specs/ProgramLaws.antt`). Whether definitions descend is left to `px_descent`.
 #![tactic(auto)]
 
 mod arguments;

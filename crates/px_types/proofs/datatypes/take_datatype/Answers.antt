@@ -5,7 +5,7 @@ use Rattle.px_types.proofs.datatypes.take_datatype.Goals as goal
 pub returns-in_err-cons-clause-answers : goal.returns-in_err-cons-clause-answers
 returns-in_err-cons-clause-answers c =
     ends_as _ _ c.from_residual.result c.in_err-cons.field-0.0 c.from_residual.ensures.1 (datatype_fails c.args.program.now c.args.raw.now
-        c.in_err-cons.field-0.0 c.in_err-cons.ensures.answers)
+    c.in_err-cons.field-0.0 c.in_err-cons.ensures.answers)
 
 pub returns-clause-answers : goal.returns-clause-answers
 returns-clause-answers c =

@@ -11,9 +11,9 @@ loop-con-init c =
 pub returns-in_err-type_con : goal.returns-in_err-type_con
 returns-in_err-type_con c =
     end_is _ c.from_residual.result c.in_err-type_con.field-0.0 c.from_residual.ensures.1 (each_fails
-        (constructor_found c.args.program.now c.args.raw.now.tparams) c.args.raw.now.cons c.as_slice-con-items.result.now c.as_slice-con-items.ensures
-        c.loop-con.con-index c.con-item.result c.loop-con.cons c.in_err-type_con.field-0.0 c.loop-con-test.true c.con-item.is c.in_err-type_con.ensures
-        c.loop-con.invariant)
+    (constructor_found c.args.program.now c.args.raw.now.tparams) c.args.raw.now.cons c.as_slice-con-items.result.now c.as_slice-con-items.ensures
+    c.loop-con.con-index c.con-item.result c.loop-con.cons c.in_err-type_con.field-0.0 c.loop-con-test.true c.con-item.is c.in_err-type_con.ensures
+    c.loop-con.invariant)
 
 pub loop-con-preserved : goal.loop-con-preserved
 loop-con-preserved c =

@@ -6,13 +6,13 @@ use Rattle.px_types.proofs.lemmas.type_equation.Goals as goal
 pub returns-in_err-term : goal.returns-in_err-term
 returns-in_err-term c =
     end_is _ c.from_residual.result c.in_err-term.field-0.0 c.from_residual.ensures.1 (left_fails (env_of c.args.env.now) c.args.raw.now c.new-bound.result
-        c.in_err-term.field-0.0 c.new-bound.ensures c.in_err-term.ensures.answers)
+    c.in_err-term.field-0.0 c.new-bound.ensures c.in_err-term.ensures.answers)
 
 pub returns-in_err-right : goal.returns-in_err-right
 returns-in_err-right c =
     end_is _ c.from_residual-in_err-right.result c.in_err-right.field-0.0 c.from_residual-in_err-right.ensures.1
-        (right_fails (env_of c.args.env.now) c.args.raw.now c.new-bound.result c.type_term.new.bound c.in_ok-term.field-0 c.in_err-right.field-0.0
-        c.new-bound.ensures c.in_ok-term.ensures.bound c.in_ok-term.ensures.answers c.in_err-right.ensures.answers)
+    (right_fails (env_of c.args.env.now) c.args.raw.now c.new-bound.result c.type_term.new.bound c.in_ok-term.field-0 c.in_err-right.field-0.0
+    c.new-bound.ensures c.in_ok-term.ensures.bound c.in_ok-term.ensures.answers c.in_err-right.ensures.answers)
 
 pub returns : goal.returns
 returns c =

@@ -12,8 +12,8 @@ loop-raw-init c =
 pub returns-in_err-type_equation : goal.returns-in_err-type_equation
 returns-in_err-type_equation c =
     end_is _ c.from_residual.result c.in_err-type_equation.field-0.0 c.from_residual.ensures.1 (each_fails (equation_found (env_of c.args.env.now))
-        c.args.raws.now c.as_slice-raw-items.result.now c.as_slice-raw-items.ensures c.loop-raw.raw-index c.raw-item.result c.loop-raw.equations
-        c.in_err-type_equation.field-0.0 c.loop-raw-test.true c.raw-item.is c.in_err-type_equation.ensures c.loop-raw.invariant)
+    c.args.raws.now c.as_slice-raw-items.result.now c.as_slice-raw-items.ensures c.loop-raw.raw-index c.raw-item.result c.loop-raw.equations
+    c.in_err-type_equation.field-0.0 c.loop-raw-test.true c.raw-item.is c.in_err-type_equation.ensures c.loop-raw.invariant)
 
 pub loop-raw-preserved : goal.loop-raw-preserved
 loop-raw-preserved c =

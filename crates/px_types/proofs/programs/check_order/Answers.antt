@@ -10,15 +10,15 @@ returns-in_err-take_next c =
     let raw = c.args.raw.now in
     let here = item_at raw.order c.loop-number.number (rw c.len-number-end.ensures at c.loop-number-test.true) in
     end_is _ c.from_residual-in_err-take_next.result c.in_err-take_next.field-0.0 c.from_residual-in_err-take_next.ensures.1
-        (order_fails raw c.requires c.loop-number.checking c.loop-number.number here c.loop-number.invariant c.in_err-take_next.field-0.0
-        (c.in_err-take_next.ensures here.item here.stands))
+    (order_fails raw c.requires c.loop-number.checking c.loop-number.number here c.loop-number.invariant c.in_err-take_next.field-0.0
+    (c.in_err-take_next.ensures here.item here.stands))
 
 pub loop-number-preserved : goal.loop-number-preserved
 loop-number-preserved c =
     let raw = c.args.raw.now in
     let here = item_at raw.order c.loop-number.number (rw c.len-number-end.ensures at c.loop-number-test.true) in
     so_far_next raw c.requires c.loop-number.checking c.loop-number.number here c.loop-number.invariant c.take_next.new.checking
-        (c.in_ok-take_next.ensures here.item here.stands)
+    (c.in_ok-take_next.ensures here.item here.stands)
 
 pub returns : goal.returns
 returns c =

@@ -5,7 +5,7 @@ use Rattle.px_types.proofs.replicas.is_instance.Goals as goal
 pub returns-then-not-instance_is_within : goal.returns-then-not-instance_is_within
 returns-then-not-instance_is_within c =
     over_is_other (ty_instance c.args.types.now c.args.ty.now) c.args.whole.now c.instance_is_within.result c.requires c.if-not-instance_is_within.true
-        (rw c.as_slice.ensures at c.instance_is_within.ensures)
+    (rw c.as_slice.ensures at c.instance_is_within.ensures)
 
 pub returns : goal.returns
 returns c =

@@ -14,22 +14,22 @@ returns-in_default-2 c =
 pub returns-then-not-branch : goal.returns-then-not-branch
 returns-then-not-branch c =
     let two = two_items c.args.def.now.params c.as_slice.result.now c.first-item.result c.second-item.result c.as_slice.ensures c.in-len2.len_at_least
-        c.in-len2.len_below c.first-item.is c.second-item.is in
+    c.in-len2.len_below c.first-item.is c.second-item.is in
     not_first (ty_instance c.args.types.now) c.args.state.now _ c.args.def.now.params c.first-item.result c.second-item.result two c.in_ok-is_instance.field-0
-        c.in_ok-is_instance.ensures c.if-not-branch.true
+    c.in_ok-is_instance.ensures c.if-not-branch.true
 
 pub returns-then-not-branch-2 : goal.returns-then-not-branch-2
 returns-then-not-branch-2 c =
     let two = two_items c.args.def.now.params c.as_slice.result.now c.first-item.result c.second-item.result c.as_slice.ensures c.in-len2.len_at_least
-        c.in-len2.len_below c.first-item.is c.second-item.is in
+    c.in-len2.len_below c.first-item.is c.second-item.is in
     not_second (ty_instance c.args.types.now) c.args.state.now _ c.args.def.now.params c.first-item.result c.second-item.result two c.in_ok-is_instance.field-0
-        c.in_ok-is_instance-2.field-0 c.in_ok-is_instance.ensures c.if-not-branch.false c.in_ok-is_instance-2.ensures c.if-not-branch-2.true
+    c.in_ok-is_instance-2.field-0 c.in_ok-is_instance.ensures c.if-not-branch.false c.in_ok-is_instance-2.ensures c.if-not-branch-2.true
 
 pub returns : goal.returns
 returns c =
     let two = two_items c.args.def.now.params c.as_slice.result.now c.first-item.result c.second-item.result c.as_slice.ensures c.in-len2.len_at_least
-        c.in-len2.len_below c.first-item.is c.second-item.is in
+    c.in-len2.len_below c.first-item.is c.second-item.is in
     let gives = same (ty_instance c.args.types.now c.args.def.now.result) c.args.state.now in
     ok_as c.is_instance-3.result gives _ (as_third (ty_instance c.args.types.now) c.args.state.now gives c.args.def.now.params c.first-item.result
-        c.second-item.result two c.in_ok-is_instance.field-0 c.in_ok-is_instance-2.field-0 c.in_ok-is_instance.ensures c.if-not-branch.false
-        c.in_ok-is_instance-2.ensures c.if-not-branch-2.false) c.is_instance-3.ensures
+    c.second-item.result two c.in_ok-is_instance.field-0 c.in_ok-is_instance-2.field-0 c.in_ok-is_instance.ensures c.if-not-branch.false
+    c.in_ok-is_instance-2.ensures c.if-not-branch-2.false) c.is_instance-3.ensures

@@ -5,8 +5,8 @@ use Rattle.px_types.proofs.signatures.check_assumed.Goals as goal
 pub returns-in_err-check_props : goal.returns-in_err-check_props
 returns-in_err-check_props c =
     end_is _ c.from_residual.result c.in_err-check_props.field-0.0 c.from_residual.ensures.1 (assumed_fail c.args.program.now c.args.funs.now c.args.raws.now
-        c.loop-raw.raw-index c.raw-item.result c.raw-item.result c.as_slice.result.now c.loop-raw.rest.now c.in_err-check_props.field-0.0 c.loop-raw-test.true
-        c.raw-item.is c.as_slice.ensures c.loop-raw.invariant.1 c.in_err-check_props.ensures c.loop-raw.invariant.0)
+    c.loop-raw.raw-index c.raw-item.result c.raw-item.result c.as_slice.result.now c.loop-raw.rest.now c.in_err-check_props.field-0.0 c.loop-raw-test.true
+    c.raw-item.is c.as_slice.ensures c.loop-raw.invariant.1 c.in_err-check_props.ensures c.loop-raw.invariant.0)
 
 pub loop-raw-preserved : goal.loop-raw-preserved
 loop-raw-preserved c = (

@@ -13,8 +13,8 @@ pub returns-in_err-type_fn_type : goal.returns-in_err-type_fn_type
 unfolding fn_types_found
 returns-in_err-type_fn_type c =
     end_is _ c.from_residual.result c.in_err-type_fn_type.field-0.0 c.from_residual.ensures.1 (each_fails (fn_type_found c.args.program.now c.args.tparams)
-        c.args.raws.now c.as_slice-raw-items.result.now c.as_slice-raw-items.ensures c.loop-raw.raw-index c.raw-item.result c.loop-raw.funs
-        c.in_err-type_fn_type.field-0.0 c.loop-raw-test.true c.raw-item.is c.in_err-type_fn_type.ensures c.loop-raw.invariant)
+    c.args.raws.now c.as_slice-raw-items.result.now c.as_slice-raw-items.ensures c.loop-raw.raw-index c.raw-item.result c.loop-raw.funs
+    c.in_err-type_fn_type.field-0.0 c.loop-raw-test.true c.raw-item.is c.in_err-type_fn_type.ensures c.loop-raw.invariant)
 
 pub loop-raw-preserved : goal.loop-raw-preserved
 unfolding fn_types_found
