@@ -14,3 +14,5 @@ pub mod SlotLemmas
 pub mod ArmsExact
 pub mod MatchExact
 pub mod AllExact
+pub mod TypeOfShapes
+pub mod TypeOfExact

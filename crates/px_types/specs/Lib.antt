@@ -7,3 +7,6 @@ pub mod Answers
 pub mod Laws
 pub mod NextOutcome
 pub mod ProgramLaws
+pub mod TypeOf
+pub mod Bounds
+pub mod Callees

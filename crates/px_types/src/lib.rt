@@ -3,10 +3,15 @@
 //! (`specs/Written.antt`), and which fault is its first (`specs/Faults.antt`).
 #![tactic(auto)]
 
+mod bounds;
+mod callees;
 mod ends;
+mod formed;
+mod knowledge;
 mod laws;
 mod typed;
 mod types;
+mod typings;
 
 pub use ends::{TypeEnd, TypeKind};
 pub use laws::{
@@ -14,3 +19,4 @@ pub use laws::{
 };
 pub use typed::Typed;
 pub use types::{type_ty, type_tys};
+pub use typings::{NotTyped, type_of, typings_are_exact};
