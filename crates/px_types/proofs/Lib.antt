@@ -16,3 +16,4 @@ pub mod MatchExact
 pub mod AllExact
 pub mod TypeOfShapes
 pub mod TypeOfExact
+pub mod TypeOfSteps

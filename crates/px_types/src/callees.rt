@@ -1,5 +1,5 @@
 //! What is called or passed, with its types put in, and the functions that are passed to it.
-ghost use Rattle.std.specs.Prelude.{◌≡◌, List, map, IfOk};
+ghost use Rattle.std.specs.Prelude.{◌≡◌, ◌↔◌, List, [], map, IfOk, IsTrue};
 ghost use Rattle.px_terms.specs.declared.types.Ty.{Ty as Kind};
 ghost use Rattle.px_terms.specs.Types.{fn_type_instance};
 ghost use Rattle.px_types.specs.Bounds.{here};
@@ -28,6 +28,7 @@ pub(crate) struct Callee {
 }
 
 /// What is called, with its types put in. It takes memory.
+#[tactic(auto, unfolding(crate::specs::TypeOf::callee_found, crate::specs::TypeOf::followed, crate::specs::TypeOf::when))]
 pub(crate) fn called_by(scope: &Scope, fun: &Fun) -> Result<Callee, NotTyped>
     ensures { FindsCallee (found.callee_found (here scope.now) fun.now) result }
 {
@@ -38,6 +39,7 @@ pub(crate) fn called_by(scope: &Scope, fun: &Fun) -> Result<Callee, NotTyped>
 }
 
 /// What is called, at these types, which are as many as it takes. It takes memory.
+#[tactic(auto, unfolding(crate::specs::Outcome::signature_of))]
 fn signature(scope: &Scope, head: Head, types: &Items<Ty>) -> Result<Callee, NotTyped>
     ensures { FindsCallee (signature_of (here scope.now) head types.now) result }
 {
@@ -49,6 +51,7 @@ fn signature(scope: &Scope, head: Head, types: &Items<Ty>) -> Result<Callee, Not
 }
 
 /// A definition at these types. It takes memory.
+#[tactic(auto, unfolding(crate::specs::Outcome::signature_of))]
 fn definition(scope: &Scope, number: u32, types: &Items<Ty>) -> Result<Callee, NotTyped>
     ensures { FindsCallee (signature_of (here scope.now) (Head.Def number) types.now) result }
 {
@@ -80,6 +83,7 @@ fn of_words(alloc: Global) -> Result<Callee, NotTyped>
 }
 
 /// A function variable. It takes memory.
+#[tactic(auto, unfolding(crate::specs::Outcome::signature_of))]
 fn function_variable(scope: &Scope, number: u32) -> Result<Callee, NotTyped>
     ensures { (types : List Kind) → FindsCallee (signature_of (here scope.now) (Head.FnVar number) types) result }
 {
@@ -109,6 +113,7 @@ fn instance_of_fn_types(alloc: Global, funs: &Items<FnType>, types: &Items<Ty>) 
 }
 
 /// Whether as many types are given as what is named takes, and they are types. It takes no memory.
+#[tactic(auto, unfolding(crate::specs::TypeOf::has_types))]
 fn has_types(scope: &Scope, fun: &Fun) -> bool
     ensures { result ≡ found.has_types (here scope.now) fun.now }
 {
@@ -116,6 +121,7 @@ fn has_types(scope: &Scope, fun: &Fun) -> bool
 }
 
 /// Whether as many types are given as what is named takes. It takes no memory.
+#[tactic(auto, unfolding(crate::specs::TypeOf::has_type_count))]
 fn has_type_count(scope: &Scope, fun: &Fun) -> bool
     ensures { result ≡ found.has_type_count (here scope.now) fun.now }
 {
@@ -163,6 +169,13 @@ fn argument_has(scope: &Scope, fun: &Fun, wanted: &FnType) -> Result<(), NotType
 /// Whether it takes no functions, and has the wanted type. It takes no memory.
 fn is_alike_to(own: &Callee, wanted: &FnType) -> bool
     ensures { result ≡ is_alike (signature_is own.now) wanted.now }
+{
+    has_type(own, wanted)
+}
+
+/// The same, said of its parts.
+fn has_type(own: &Callee, wanted: &FnType) -> bool
+    ensures { IsTrue result ↔ ((own.now.takes ≡ []) × ((own.now.params ≡ wanted.now.params) × (own.now.gives ≡ wanted.now.result))) }
 {
     own.takes.is_empty()
         && same_tys(own.params.as_slice(), wanted.params.as_slice())

@@ -35,6 +35,7 @@ pub(crate) fn are_types(types: &Items<Ty>, program: &Program, tparams: u32) -> b
 }
 
 /// Whether the datatype is there, and takes so many types. It takes no memory.
+#[tactic(auto, unfolding(crate::specs::TypeOf::takes))]
 fn takes(program: &Program, datatype: u32, given: usize) -> bool
     ensures { result ≡ found.takes program.now datatype given }
 {
@@ -45,6 +46,7 @@ fn takes(program: &Program, datatype: u32, given: usize) -> bool
 }
 
 /// Whether the datatype at these types is a type. It takes no memory.
+#[tactic(auto, unfolding(crate::specs::TypeOf::is_datatype))]
 pub(crate) fn is_datatype(scope: &Scope, datatype: u32, types: &Items<Ty>) -> bool
     ensures { result ≡ found.is_datatype (here scope.now).program (here scope.now).context.tparams datatype types.now }
 {

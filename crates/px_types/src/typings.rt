@@ -180,6 +180,7 @@ fn word_type(_word: u64) -> Ty
 }
 
 /// The types of the fields of a constructor at these types. It takes memory.
+#[tactic(auto, unfolding(crate::specs::TypeOf::fields_found, crate::specs::TypeOf::followed, crate::specs::TypeOf::when))]
 fn fields_of(scope: &Scope, datatype: u32, con: u32, types: &Items<Ty>) -> Result<Items<Ty>, NotTyped>
     ensures { Finds (fields_found (here scope.now) datatype con types.now) result }
 {
@@ -206,6 +207,7 @@ fn datatype_at(alloc: Global, datatype: u32, types: &Items<Ty>) -> Result<Ty, No
 }
 
 /// The constructors of the datatype that a match says it is on, where it is on a term of that type. It takes no memory.
+#[tactic(auto, unfolding(crate::specs::TypeOf::constructors_found, crate::specs::TypeOf::followed, crate::specs::TypeOf::when))]
 fn constructors_of<'a>(scope: &Scope<'a>, found: &Ty, datatype: u32, types: &Items<Ty>) -> Result<&'a Items<ConDef>, NotTyped>
     ensures { let wanted = constructors_found (here scope.now) found.now datatype types.now in MatchResult result (λ cons. wanted ≡ Some cons.now) (EndsWithout wanted) }
 {
@@ -226,6 +228,7 @@ fn is_same(found: &Ty, wanted: &Ty) -> bool
 }
 
 /// Whether the type is that of the arms before, where there were some. It takes no memory.
+#[tactic(auto, unfolding(crate::specs::Outcome::agrees))]
 fn is_agreed(agreed: &Option<Ty>, found: &Ty) -> bool
     ensures { result ≡ agrees agreed.now found.now }
 {
