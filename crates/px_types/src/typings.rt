@@ -247,7 +247,8 @@ fn is_con(found: &Ty, datatype: u32, types: &Items<Ty>) -> bool
             datatype: number,
             args,
         } => *number == datatype && same_tys(args.as_slice(), types.as_slice()),
-        Ty::Word | Ty::Var(_) => false,
+        Ty::Word => false,
+        Ty::Var(_number) => false,
     }
 }
 

@@ -11,5 +11,5 @@ returns-else-number-datatype c = other_con c.args.found.now c.in-Con.number c.ar
 pub returns-in-Word : goal.returns-in-Word
 returns-in-Word c = word_no_con c.args.found.now c.args.datatype c.args.types.now c.in-Word.is
 
-pub returns-in-Word-2 : goal.returns-in-Word-2
-returns-in-Word-2 c = var_no_con c.args.found.now _ c.args.datatype c.args.types.now c.in-Var.is
+pub returns-in-Var : goal.returns-in-Var
+returns-in-Var c = var_no_con c.args.found.now c.in-Var._number c.args.datatype c.args.types.now c.in-Var.is
