@@ -17,3 +17,4 @@ pub mod AllExact
 pub mod TypeOfShapes
 pub mod TypeOfExact
 pub mod TypeOfSteps
+pub mod TypeOfKnown

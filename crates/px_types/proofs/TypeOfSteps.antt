@@ -315,3 +315,9 @@ fn_types_next types funs looked same i F made more params T h is before params_a
     let one : ◌≡◌ {A = FnType} (record { params = params; result = T; props = F.props }) (fn_type_instance types F) = λ j. record { params = params_are j; result = result_is j; props = F.props } in
     let taken : take (i + 1) funs ≡ take i funs ++ F ∷ [] = take_more funs i F below ∙ ap (λ G. take i funs ++ G ∷ []) (sym item) in
     pushed ∙ (λ j. before j ++ one j ∷ []) ∙ sym (ap (map (fn_type_instance types)) taken ∙ map-append (fn_type_instance types) (take i funs) (F ∷ []))
+
+pub parts_uneven_own : (own : Term → Found) (bound : List Ty) (parts : List Term) (types : List Ty) → (length parts ≡ length types → ⊥) → parts_have bound (map own parts) types ≡ None
+parts_uneven_own own bound parts types h = parts_uneven bound (map own parts) types (λ e. h (sym (length-map parts own) ∙ e))
+
+pub arms_uneven_own : (own : Term → Found) (bound types : List Ty) (before : Option Ty) (cons : List ConDef) (arms : List Term) → (length arms ≡ length cons → ⊥) → arms_have bound types before cons (map own arms) ≡ None
+arms_uneven_own own bound types before cons arms h = arms_uneven bound types before cons (map own arms) (λ e. h (sym (length-map arms own) ∙ e))

@@ -156,11 +156,15 @@ pub(crate) fn arguments_have(scope: &Scope, funs: &Items<Fun>, takes: &Items<FnT
 }
 
 /// Whether the function may stand where one of this type is wanted. It takes memory.
+#[tactic(auto, unfolding(crate::specs::TypeOf::argument_fits, crate::specs::TypeOf::followed, crate::specs::TypeOf::when))]
 fn argument_has(scope: &Scope, fun: &Fun, wanted: &FnType) -> Result<(), NotTyped>
     ensures { Finds (found.argument_fits (here scope.now) fun.now wanted.now) result }
 {
     let own = called_by(scope, fun)?;
-    if !is_alike_to(&own, wanted) || !knows_all(scope, fun.head, wanted.props) {
+    if !is_alike_to(&own, wanted) {
+        return Err(NotTyped::IllTyped);
+    }
+    if !knows_all(scope, fun.head, wanted.props) {
         return Err(NotTyped::IllTyped);
     }
     Ok(())

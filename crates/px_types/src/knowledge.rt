@@ -1,9 +1,9 @@
 //! What is known of a function at no place of the text: of a definition all that the program declares of it.
-ghost use Rattle.std.specs.Prelude.{◌≡◌, ◌↔◌, ◌⊎◌, IsTrue};
+ghost use Rattle.std.specs.Prelude.{◌≡◌, ◌↔◌, ◌⊎◌, ◌&&◌, not, IsTrue};
 ghost use Rattle.std.specs.List.{list_any};
 ghost use Rattle.px_props.specs.Sets.{IsSetOf};
 ghost use Rattle.px_terms.specs.Prop.{Prop as Property};
-ghost use Rattle.px_terms.specs.PropSets.{HasProp};
+ghost use Rattle.px_terms.specs.PropSets.{HasProp, has_prop};
 ghost use Rattle.px_terms.specs.Typing.{IsSaid, anywhere};
 ghost use Rattle.px_types.specs.Bounds.{here};
 ghost use Rattle.px_types.specs.Outcome.{has_wanted, is_property_of};
@@ -86,9 +86,16 @@ fn includes(set: PropSet, wanted: PropSet) -> bool
     ensures { IsTrue result ↔ ((p : Property) → HasProp wanted p → HasProp set p) }
 {
     for prop in ALL {
-        if has(wanted, prop) && !has(set, prop) {
+        if is_missing(set, wanted, prop) {
             return false;
         }
     }
     true
+}
+
+/// Whether the property is wanted, and not in the set. It takes no memory.
+fn is_missing(set: PropSet, wanted: PropSet, prop: Prop) -> bool
+    ensures { result ≡ (has_prop wanted prop && not (has_prop set prop)) }
+{
+    has(wanted, prop) && !has(set, prop)
 }
