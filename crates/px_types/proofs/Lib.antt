@@ -18,3 +18,4 @@ pub mod TypeOfShapes
 pub mod TypeOfExact
 pub mod TypeOfSteps
 pub mod TypeOfKnown
+pub mod TypeOfAnswers

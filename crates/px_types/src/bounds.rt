@@ -1,5 +1,6 @@
 //! What is in scope at a term, and the pattern variables around it.
-ghost use Rattle.std.specs.Prelude.{◌≡◌, slice_get};
+ghost use Rattle.std.specs.Prelude.{◌≡◌, ◌++◌, reverse, slice_get};
+ghost use Rattle.px_terms.specs.Types.{tys_instance};
 ghost use Rattle.px_types.specs.Bounds.{bound_of};
 ghost use Rattle.px_types.specs.TypeOf.{Finds};
 
@@ -26,6 +27,17 @@ pub(crate) enum Around<'a> {
         types: &'a Items<Ty>,
         outer: &'a Around<'a>,
     },
+}
+
+/// The pattern variables around what stands in an arm of a constructor with these fields, at these types. It takes no memory.
+pub(crate) fn inside_arm<'a>(fields: &'a Items<Ty>, types: &'a Items<Ty>, outer: &'a Around<'a>) -> Around<'a>
+    ensures { bound_of result ≡ reverse (tys_instance types.now fields.now) ++ bound_of outer.now }
+{
+    Around::Arm {
+        fields,
+        types,
+        outer,
+    }
 }
 
 /// The type of the pattern variable of this number, counted from the inside. It takes memory.

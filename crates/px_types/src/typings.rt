@@ -8,7 +8,7 @@ ghost use Rattle.px_types.specs.Outcome.{agrees, same, type_of_variable};
 ghost use Rattle.px_types.specs.TypeOf.{EndsWithout, Finds, HasConstructors, TypesAreExact, arms_have, constructors_found, fields_found, literal_type, parts_have, type_found};
 ghost use Rattle.px_types.specs.declared.typings.NotTyped.TheVariants as ends;
 
-use crate::bounds::{Around, Scope, pattern_variable};
+use crate::bounds::{Around, Scope, inside_arm, pattern_variable};
 use crate::callees::{arguments_have, called_by};
 use crate::formed::is_datatype;
 use px_terms::{
@@ -142,11 +142,7 @@ fn arms_type(arms: &Items<Term>, scope: &Scope, around: &Around, matched: &Match
     }
     let mut agreed = None;
     for index in 0..bodies.len() {
-        let inner = Around::Arm {
-            fields: &cons[index].fields,
-            types: matched.types,
-            outer: &*around,
-        };
+        let inner = inside_arm(&cons[index].fields, matched.types, &*around);
         let found = type_in(&bodies[index], scope, &inner)?;
         if !is_agreed(&agreed, &found) {
             return Err(NotTyped::IllTyped);
