@@ -17,6 +17,7 @@ use Rattle.px_terms.specs.declared.sequent.Context.{Context}
 use Rattle.px_terms.specs.Types.{tys_instance}
 use Rattle.px_terms.specs.Programs.{constructor_at}
 use Rattle.px_terms.specs.Typing.{anywhere, HasTypeLayer}
+use Rattle.px_terms.specs.TypedPrograms.{IsTyped}
 use Rattle.px_types.specs.Faults.{Env, Counts, counts_of}
 use Rattle.px_types.specs.Outcome.{passes, same, agrees, type_of_variable, Signature, signature_of, is_alike, has_wanted}
 use Rattle.px_types.specs.declared.typings.NotTyped.{NotTyped}
@@ -25,6 +26,10 @@ use Rattle.px_types.specs.declared.typings.NotTyped.TheVariants.{IllTyped, NoMem
 -- each datatype of the program has a constructor, as in each typed program
 abbrev pub HasConstructors : Program → Type 0
 HasConstructors P = (d : ℕ) (D : DataDef) → slice_get P.datatypes d ≡ Some D → 0 < length D.cons
+
+-- typed programs are such
+abbrev pub TypedHaveConstructors : Type 0
+TypedHaveConstructors = (P : Program) → IsTyped P → HasConstructors P
 
 -- this program and these variables, at no place of the text
 abbrev pub at_no_place : Program → Context → Env
@@ -187,4 +192,5 @@ type_found E t = fold-Term Found (type_step E) t
 
 -- the type of a term is found exactly where it has one
 abbrev pub TypesAreExact : Type 0
-TypesAreExact = (P : Program) (context : Context) (t : Term) (bound : List Ty) (T : Ty) → HasConstructors P → (type_found (at_no_place P context) t bound ≡ Some T) ↔ HasTypeLayer P anywhere context bound (out-Term t) T
+TypesAreExact = (P : Program) (context : Context) (t : Term) (bound : List Ty) (T : Ty) → HasConstructors P →
+    (type_found (at_no_place P context) t bound ≡ Some T) ↔ HasTypeLayer P anywhere context bound (out-Term t) T

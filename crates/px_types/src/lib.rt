@@ -9,6 +9,8 @@ mod ends;
 mod formed;
 mod knowledge;
 mod laws;
+#[cfg(test)]
+mod tests;
 mod typed;
 mod types;
 mod typings;
@@ -19,4 +21,4 @@ pub use laws::{
 };
 pub use typed::Typed;
 pub use types::{type_ty, type_tys};
-pub use typings::{NotTyped, type_of, typings_are_exact};
+pub use typings::{NotTyped, type_of, typed_have_constructors, typings_are_exact};

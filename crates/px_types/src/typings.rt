@@ -5,7 +5,7 @@ ghost use Rattle.px_terms.specs.declared.types.Ty.TheVariants as kinds;
 ghost use Rattle.px_terms.specs.Typing.{HasType, anywhere};
 ghost use Rattle.px_types.specs.Bounds.{bound_of, here};
 ghost use Rattle.px_types.specs.Outcome.{agrees, same, type_of_variable};
-ghost use Rattle.px_types.specs.TypeOf.{EndsWithout, Finds, HasConstructors, TypesAreExact, arms_have, constructors_found, fields_found, literal_type, parts_have, type_found};
+ghost use Rattle.px_types.specs.TypeOf.{EndsWithout, Finds, HasConstructors, TypedHaveConstructors, TypesAreExact, arms_have, constructors_found, fields_found, literal_type, parts_have, type_found};
 ghost use Rattle.px_types.specs.declared.typings.NotTyped.TheVariants as ends;
 
 use crate::bounds::{Around, Scope, inside_arm, pattern_variable};
@@ -251,4 +251,9 @@ fn is_con(found: &Ty, datatype: u32, types: &Items<Ty>) -> bool
 /// The type of a term is found exactly where it has one.
 pub fn typings_are_exact()
     ensures { TypesAreExact }
+{}
+
+/// Each datatype of a typed program has a constructor.
+pub fn typed_have_constructors()
+    ensures { TypedHaveConstructors }
 {}
