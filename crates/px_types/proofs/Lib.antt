@@ -53,3 +53,8 @@ pub mod SaidSteps
 pub mod ArgumentSteps
 pub mod ArmSteps
 pub mod TermSteps
+pub mod TypeOfShapes
+pub mod TypeOfExact
+pub mod TypeOfSteps
+pub mod TypeOfKnown
+pub mod TypeOfAnswers

@@ -10,3 +10,6 @@ pub mod ProgramLaws
 pub mod Scopes
 pub mod Envs
 pub mod Checkings
+pub mod TypeOf
+pub mod Bounds
+pub mod Callees

@@ -10,13 +10,17 @@
 
 mod arguments;
 mod arms;
+mod bounds;
+mod callees;
 mod checking;
 mod datatypes;
 mod declare;
 mod definitions;
 mod ends;
 mod env;
+mod formed;
 mod heads;
+mod knowledge;
 mod laws;
 mod lemmas;
 mod lists;
@@ -29,9 +33,12 @@ mod said;
 mod signatures;
 mod start;
 mod terms;
+#[cfg(test)]
+mod tests;
 mod typed;
 mod typed_laws;
 mod types;
+mod typings;
 
 pub use checking::Checking;
 pub use ends::{TypeEnd, TypeKind};
@@ -48,3 +55,4 @@ pub use programs::check_types;
 pub use typed::Typed;
 pub use typed_laws::{programs_are_typed, programs_have_numbers};
 pub use types::{type_ty, type_tys};
+pub use typings::{NotTyped, type_of, typed_have_constructors, typings_are_exact};

@@ -1,0 +1,6 @@
+use Rattle.px_types.specs.Bounds.{here}
+use Rattle.px_types.proofs.TypeOfSteps.{FitSo}
+use Rattle.px_types.proofs.callees.arguments_have.Given as goal
+
+abbrev pub invariant-loop-index : goal.invariant-loop-index
+invariant-loop-index l = FitSo (here l.scope) l.funs l.takes l.index
