@@ -1,10 +1,9 @@
 use Rattle.std.proofs.Common.{◌≡◌, sym, ◌∙◌}
 use Rattle.std.specs.Fmt.{decimal}
-use Rattle.px_drive.specs.Messages.{scope_words}
-use Rattle.px_drive.proofs.messages.write_scope.Goals as goal
+use Rattle.px_drive.proofs.messages.write_rule.Goals as goal
 
 pub returns-clause-writes : goal.returns-clause-writes
 returns-clause-writes g c =
-    let kind : scope_words c.args.kind ≡ c.as_bytes.result.now = sym (c.as_bytes.ensures.value ∙ c.words.ensures) in
+    let rule : c.args.rule.now ≡ c.as_bytes.result.now = sym c.as_bytes.ensures.value in
     let place : decimal c.args.at ≡ c.as_bytes-2.result.now = sym (c.as_bytes-2.ensures.value ∙ c.format.ensures.text) in
-    rw (kind, place) c.write_pieces.ensures.writes
+    rw (rule, place) c.write_pieces.ensures.writes
