@@ -124,7 +124,7 @@ fn the_clauses_are_those_of_the_table(rt: HostRuntime) -> Result<(), Fail> {
         let clause = clause_of(alloc, &program, Head::Wle, &[], prop)?;
         assert_eq!(rt; said(alloc, &clause)?.as_str(), wanted);
         match clause_of(alloc, &program, Head::Def(0), &[], prop) {
-            Ok(_clause) => assert!(rt; false, "{wanted}"),
+            Ok(_clause) => assert!(rt; false),
             Err(end) => assert_eq!(rt; end, ClauseEnd::Shape),
         }
     }

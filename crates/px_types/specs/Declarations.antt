@@ -96,19 +96,23 @@ obligations_of n props = map (λ (p : Prop). declared.Property n p) (props_of pr
 abbrev pub AllFit : Program → ℕ → List RawProp → Type 0
 AllFit P n props = All (λ (raw : RawProp). Fits P [] (head.Def n) raw.prop) props
 
--- the program with one more datatype, and its kin
+-- the program with one more datatype
 abbrev pub with_datatype : Program → DataDef → Program
 with_datatype P D = record P { datatypes = P.datatypes ++ D ∷ [] }
 
+-- the program with one more definition
 abbrev pub with_definition : Program → Def → Program
 with_definition P D = record P { defs = P.defs ++ D ∷ [] }
 
+-- the program with these obligations more
 abbrev pub with_obligations : Program → List Declared → Program
 with_obligations P obligations = record P { declared = P.declared ++ obligations }
 
+-- the program with one more lemma, which is the next obligation
 abbrev pub with_lemma : Program → Lemma → Program
 with_lemma P l = record P { lemmas = P.lemmas ++ l ∷ []; declared = P.declared ++ declared.Lemma (length P.lemmas) ∷ [] }
 
+-- the program with one more replica
 abbrev pub with_replica : Program → ReplicaDef → Program
 with_replica P r = record P { replicas = P.replicas ++ r ∷ [] }
 

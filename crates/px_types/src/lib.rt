@@ -5,12 +5,19 @@
 
 mod ends;
 mod laws;
+mod program_laws;
 mod typed;
+mod typed_laws;
 mod types;
 
 pub use ends::{TypeEnd, TypeKind};
 pub use laws::{
     always_one, arguments_are_found, arguments_break_as_found, never_both, one_fault, one_typing, parts_are_found, parts_break_as_found, terms_are_found, terms_break_as_found, types_are_found, types_break_as_found,
 };
+pub use program_laws::{
+    always_judged, never_typed_and_broken, one_first_fault, one_program, programs_are_found,
+    programs_break_as_found,
+};
 pub use typed::Typed;
+pub use typed_laws::{programs_are_typed, programs_have_numbers};
 pub use types::{type_ty, type_tys};
