@@ -1,6 +1,7 @@
 -- A line whose work can be done is done, where no count of faults rose.
 use Rattle.std.proofs.Common.{◌≡◌, ℕ, ◌⊎◌, List, Option, None, Some, Result, Ok, Err, inl, inr, refl, ap, subst, sym, ◌∙◌}
 use Rattle.px_terms.specs.declared.program.Program.{Program}
+use Rattle.px_terms.specs.Plain.{IsPlainProgram}
 use Rattle.px_terms.specs.Spelling.{IsDerivationText}
 use Rattle.px_world.specs.Faults.{Rose}
 use Rattle.px_drive.specs.declared.outcome.CommandLine.{CommandLine}
@@ -18,7 +19,7 @@ use Rattle.px_drive.specs.Sources.{IsSource, Sources}
 use Rattle.px_drive.specs.Laws.{OneSource, NeverBoth}
 use Rattle.px_drive.specs.Answers.{Ends, Tells, IsAnswer}
 use Rattle.px_drive.specs.Completeness.{NoneRose, HasText, CanBeDone, checked, replayed, IsDone, IsComplete}
-use Rattle.px_drive.proofs.Causes.{longer, told_is, not_longer}
+use Rattle.px_drive.proofs.Causes.{longer, told_is, not_longer, not_taken}
 
 -- a text that is told and within its limit is read whole, but for want of memory
 read_whole : (text : Which) (files : FilesSeen) (name bytes : List ℕ) (result : Result (List ℕ) End) → HasText files text name bytes → ¬ Rose files.before files.after → ReadsText text files name result → (result ≡ Ok bytes) ⊎ (result ≡ Err NoMemory)
@@ -86,21 +87,24 @@ module _ (one_source : OneSource) (never_both : NeverBoth) (files : FilesSeen) (
       source_ends never_both read program end (subst (λ (bytes : List ℕ). IsSource bytes program) (is_read files calm which.Program file text has read reads) source) refuses
   check_done file text program end printed has source (inr (read, reads, inr (found, _, prints))) = prints_ends (checked_line found) out end printed calm_out prints
 
-  replay_done : (file derivation text steps : List ℕ) (program : Program) (end : End) (printed : List ℕ) → HasText files which.Program file text → HasText files which.Derivation derivation steps → IsSource text program → IsDerivationText program steps → LineEnds files out (Replay file derivation) end printed → IsDone end
-  replay_done file derivation text steps program end printed has has_steps source derives (inl (reads, _)) = reading_done files calm which.Program file text has end reads
-  replay_done file derivation text steps program end printed has has_steps source derives (inr (read, reads, inl (refuses, _))) =
+  replay_done : (file derivation text steps : List ℕ) (program : Program) (end : End) (printed : List ℕ) → HasText files which.Program file text → HasText files which.Derivation derivation steps → IsSource text program → IsPlainProgram program → IsDerivationText program steps → LineEnds files out (Replay file derivation) end printed → IsDone end
+  replay_done file derivation text steps program end printed has has_steps source plain derives (inl (reads, _)) = reading_done files calm which.Program file text has end reads
+  replay_done file derivation text steps program end printed has has_steps source plain derives (inr (read, reads, inl (refuses, _))) =
       source_ends never_both read program end (subst (λ (bytes : List ℕ). IsSource bytes program) (is_read files calm which.Program file text has read reads) source) refuses
-  replay_done file derivation text steps program end printed has has_steps source derives (inr (read, _, inr (found, _, inl (reads, _)))) = reading_done files calm which.Derivation derivation steps has_steps end reads
-  replay_done file derivation text steps program end printed has has_steps source derives (inr (read, reads, inr (found, finds, inr (rows, rows_read, inl (accepts, _))))) =
+  replay_done file derivation text steps program end printed has has_steps source plain derives (inr (read, reads, inr (found, finds, inl (takes, _)))) =
+      let here : IsSource read program = subst (λ (bytes : List ℕ). IsSource bytes program) (is_read files calm which.Program file text has read reads) source in
+      absurd ((not_taken found end takes).1 (subst IsPlainProgram (one_source read program found here finds) plain))
+  replay_done file derivation text steps program end printed has has_steps source plain derives (inr (read, _, inr (found, _, inr (taken, _, inl (reads, _))))) = reading_done files calm which.Derivation derivation steps has_steps end reads
+  replay_done file derivation text steps program end printed has has_steps source plain derives (inr (read, reads, inr (found, finds, inr (taken, _, inr (rows, rows_read, inl (accepts, _)))))) =
       let here : IsSource read program = subst (λ (bytes : List ℕ). IsSource bytes program) (is_read files calm which.Program file text has read reads) source in
       let one : program ≡ found = one_source read program found here finds in
       let derived : IsDerivationText program rows = subst (IsDerivationText program) (is_read files calm which.Derivation derivation steps has_steps rows rows_read) derives in
       accepts_ends found rows end (subst (λ (P : Program). IsDerivationText P rows) one derived) accepts
-  replay_done file derivation text steps program end printed has has_steps source derives (inr (read, _, inr (found, _, inr (rows, _, inr (n, _, prints))))) = prints_ends (accepted_line n) out end printed calm_out prints
+  replay_done file derivation text steps program end printed has has_steps source plain derives (inr (read, _, inr (found, _, inr (taken, _, inr (rows, _, inr (n, _, prints)))))) = prints_ends (accepted_line n) out end printed calm_out prints
 
   line_done : (line : CommandLine) (end : End) (printed : List ℕ) → CanBeDone files line → LineEnds files out line end printed → IsDone end
   line_done _ end printed (checked {file = file} text program has source) ends = check_done file text program end printed has source ends
-  line_done _ end printed (replayed {file = file} {derivation = derivation} text steps program has has_steps source derives) ends = replay_done file derivation text steps program end printed has has_steps source derives ends
+  line_done _ end printed (replayed {file = file} {derivation = derivation} text steps program has has_steps source plain derives) ends = replay_done file derivation text steps program end printed has has_steps source plain derives ends
 
 unread_done : (words : List (List ℕ)) (line : CommandLine) (end : End) → line_of words ≡ Some line → ReadsLine (line_of words) (Err end) → IsDone end
 unread_done words line Usage is none = cc

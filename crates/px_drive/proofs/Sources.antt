@@ -1,7 +1,10 @@
 -- Each layer of a text is one, so the text is one program, or has one fault.
-use Rattle.std.proofs.Common.{◌≡◌, ◌∙◌, ℕ, ◌<◌, suc, length, List, [], ◌∷◌, Contains, Option, Some, None, ◌⊎◌, inl, inr, Result, Ok, Err, IsErrAnd, arith, refl, ap, sym, subst}
+use Rattle.std.proofs.Common.{◌≡◌, ◌∙◌, ℕ, ◌<◌, ◌≤◌, suc, length, List, [], ◌∷◌, Contains, Option, Some, None, Result, Ok, Err, IsErrAnd, arith, refl, ap, sym, subst, min, ◌^◌, ◌-◌}
+use Rattle.px_base.specs.declared.limits.TheConstants.{PROGRAM_BYTES}
+use Rattle.px_base.specs.declared.raw.RawProgram.{RawProgram}
+use Rattle.px_base.specs.Fitting.{IsFitting}
 use Rattle.px_terms.specs.declared.program.Program.{Program}
-use Rattle.px_terms.specs.RawProgram.{RawProgram}
+use Rattle.px_terms.specs.Descent.{AllDescend}
 use Rattle.px_soundness.specs.Laws.{DerivationsAreSound}
 use Rattle.px_lexer.specs.declared.token.Token.{Token}
 use Rattle.px_lexer.specs.declared.scan.LexEnd.{LexEnd}
@@ -23,23 +26,20 @@ use Rattle.px_scope.specs.declared.ends.ScopeEnd.{ScopeEnd}
 use Rattle.px_scope.specs.declared.ends.ScopeEnd.TheVariants as scoping
 use Rattle.px_scope.specs.Answers as scope_answers
 use Rattle.px_scope.specs.Laws as scope
-use Rattle.px_thin.specs.declared.end.ThinEnd.{ThinEnd}
-use Rattle.px_thin.specs.declared.end.ThinEnd.TheVariants as thin_ends
-use Rattle.px_thin.specs.Thin.{IsThinProgram, OneThinProgram, ThinIsPlain}
-use Rattle.px_thin.specs.Ends.{IsUnlessNoMemory}
+use Rattle.px_types.specs.declared.ends.TypeKind.{TypeKind}
+use Rattle.px_types.specs.declared.ends.TypeEnd.{TypeEnd}
+use Rattle.px_types.specs.declared.ends.TypeEnd.TheVariants as typing_ends
+use Rattle.px_types.specs.Faults as typing_faults
+use Rattle.px_types.specs.Declarations as typing
+use Rattle.px_types.specs.ProgramLaws as types
+use Rattle.px_descent.specs.declared.end.NoDescent.{NoDescent}
+use Rattle.px_descent.specs.Ends.{NamesFirst}
+use Rattle.px_descent.specs.Laws as descent
 use Rattle.px_drive.specs.declared.outcome.End.{End}
-use Rattle.px_drive.specs.declared.outcome.SourceFault.TheVariants.{Lex, Parse, Scope, Unbuilt}
-use Rattle.px_drive.specs.Sources.{IsSource, IsParseFault, IsScopeFault, IsUnbuilt, IsSourceFault, Sources}
-use Rattle.px_drive.specs.Refusals.{end_of_lexing, end_of_parsing, end_of_scoping, end_of_thinning}
+use Rattle.px_drive.specs.declared.outcome.SourceFault.TheVariants.{Lex, Parse, Scope, Typing, Descent, Unbuilt}
+use Rattle.px_drive.specs.Sources.{IsNumbered, IsSource, IsParseFault, IsScopeFault, IsTypingFault, IsDescentFault, IsSourceFault, Sources}
+use Rattle.px_drive.specs.Refusals.{end_of_lexing, end_of_parsing, end_of_scoping, end_of_typing, end_of_descent}
 use Rattle.px_drive.specs.Laws.{OneSource, OneSourceFault, NeverBoth, ScopeFaultIsFirst, AcceptedIsTrue}
-
--- what is not thin is no thin program
-pub not_thin : (raw : RawProgram) (result : Result Program ThinEnd) → result ≡ Err thin_ends.NotThin → ((P : Program) → IsThinProgram raw P → IsUnlessNoMemory P result) → (P : Program) → ¬ IsThinProgram raw P
-not_thin raw result is only P thin = differ (only P thin)
-  where
-    differ : (result ≡ Ok P) ⊎ (result ≡ Err thin_ends.NoMemory) → ⊥
-    differ (inl e) = cc
-    differ (inr e) = cc
 
 -- a text that has a tree
 record HasTree (text : List ℕ) (surface : Surface) : Type 0 where
@@ -47,97 +47,171 @@ record HasTree (text : List ℕ) (surface : Surface) : Type 0 where
   are_tokens : AreTokens text tokens
   is_tree : IsProgramOf text tokens surface
 
--- a text that has a numbered program
-record HasNumbering (text : List ℕ) (raw : RawProgram) : Type 0 where
-  surface : Surface
-  has_tree : HasTree text surface
-  is_numbering : IsNumbering surface raw
-
-abbrev numbering_of_source : {text : List ℕ} {P : Program} (source : IsSource text P) → HasNumbering text source.raw
-numbering_of_source source = record { surface = source.surface; has_tree = record { tokens = source.tokens; are_tokens = source.are_tokens; is_tree = source.is_tree }; is_numbering = source.is_numbering }
-
-abbrev numbering_of_unbuilt : {text : List ℕ} (unbuilt : IsUnbuilt text) → HasNumbering text unbuilt.raw
-numbering_of_unbuilt unbuilt = record { surface = unbuilt.surface; has_tree = record { tokens = unbuilt.tokens; are_tokens = unbuilt.are_tokens; is_tree = unbuilt.is_tree }; is_numbering = unbuilt.is_numbering }
+abbrev tree_of_numbered : {text : List ℕ} {raw : RawProgram} (numbered : IsNumbered text raw) → HasTree text numbered.surface
+tree_of_numbered numbered = record { tokens = numbered.tokens; are_tokens = numbered.are_tokens; is_tree = numbered.is_tree }
 
 abbrev tree_of_fault : {text : List ℕ} {kind : ScopeKind} {at : ℕ} (fault : IsScopeFault text kind at) → HasTree text fault.surface
 tree_of_fault fault = record { tokens = fault.tokens; are_tokens = fault.are_tokens; is_tree = fault.is_tree }
 
-module _ (one_list : lexer.OneList) (one_tree : parser.OneTree) (one_numbering : scope.OneNumbering) where
+-- a rule of typing that is broken at a place
+abbrev broken_at : TypeKind → ℕ → typing_faults.Broken
+broken_at kind at = record { kind = kind; at = at }
+
+-- What the layers' laws say of each text: each layer has one value.
+pub record AreOne : Type 0 where
+  pub one_list : lexer.OneList
+  pub one_tree : parser.OneTree
+  pub one_numbering : scope.OneNumbering
+  pub trees_are_fine : parser.TreesAreFine
+  pub numberings_fit : scope.NumberingsFit
+  pub one_program : types.OneProgram
+
+-- And no layer has a value and a fault.
+pub record AreNeverBoth : Type 0 where
+  pub lexed : lexer.NeverBoth
+  pub parsed : parser.NeverBoth
+  pub resolved : scope.NeverBoth
+  pub typed : types.NeverTypedAndBroken
+  pub descends : descent.StuckExcludesDescent
+
+-- And no layer has two faults.
+pub record HaveOneFault : Type 0 where
+  pub lexed : lexer.OneFault
+  pub parsed : parser.OneFault
+  pub resolved : scope.OneFault
+  pub typed : types.OneFirstFault
+  pub descends : descent.OneFirstStuck
+
+module _ (laws : AreOne) where
   one_surface : (text : List ℕ) (one other : Surface) → HasTree text one → HasTree text other → one ≡ other
   one_surface text one other a b =
-      let tokens : a.tokens ≡ b.tokens = one_list text a.tokens b.tokens a.are_tokens b.are_tokens in
-      one_tree text b.tokens one other (subst (λ (ts : List Token). IsProgramOf text ts one) tokens a.is_tree) b.is_tree
+      let tokens : a.tokens ≡ b.tokens = laws.one_list text a.tokens b.tokens a.are_tokens b.are_tokens in
+      laws.one_tree text b.tokens one other (subst (λ (ts : List Token). IsProgramOf text ts one) tokens a.is_tree) b.is_tree
 
-  one_raw : (text : List ℕ) (one other : RawProgram) → HasNumbering text one → HasNumbering text other → one ≡ other
+  one_raw : (text : List ℕ) (one other : RawProgram) → IsNumbered text one → IsNumbered text other → one ≡ other
   one_raw text one other a b =
-      let surfaces : a.surface ≡ b.surface = one_surface text a.surface b.surface a.has_tree b.has_tree in
-      one_numbering b.surface one other (subst (λ (s : Surface). IsNumbering s one) surfaces a.is_numbering) b.is_numbering
+      let surfaces : a.surface ≡ b.surface = one_surface text a.surface b.surface (tree_of_numbered a) (tree_of_numbered b) in
+      laws.one_numbering b.surface one other (subst (λ (s : Surface). IsNumbering s one) surfaces a.is_numbering) b.is_numbering
 
-  pub one_source_law : OneThinProgram → OneSource
-  one_source_law one_thin text P Q one other =
-      let raws : one.raw ≡ other.raw = one_raw text one.raw other.raw (numbering_of_source one) (numbering_of_source other) in
-      one_thin other.raw P Q (subst (λ (raw : RawProgram). IsThinProgram raw P) raws one.is_thin) other.is_thin
+  -- a numbered program is as the check of types asks for it
+  fitting : (text : List ℕ) (raw : RawProgram) → IsNumbered text raw → IsFitting raw
+  fitting text raw numbered =
+      let fine : parser.IsFine text numbered.surface = laws.trees_are_fine text numbered.tokens numbered.surface numbered.are_tokens numbered.is_tree in
+      let size : length text ≤ PROGRAM_BYTES = numbered.fits in
+      laws.numberings_fit numbered.surface raw (omega (arith, fine.fits, size)) fine.nests fine.filled numbered.is_numbering
 
-module _ (one_list : lexer.OneList) (lexed_never_both : lexer.NeverBoth) (one_tree : parser.OneTree) (parsed_never_both : parser.NeverBoth) (one_numbering : scope.OneNumbering) (resolved_never_both : scope.NeverBoth) where
+  one_typed : (text : List ℕ) (one other : RawProgram) (P Q : Program) → IsNumbered text one → IsNumbered text other → typing.IsProgramOf one P → typing.IsProgramOf other Q → P ≡ Q
+  one_typed text one other P Q a b p q =
+      let raws : one ≡ other = one_raw text one other a b in
+      laws.one_program other P Q (fitting text other b) (subst (λ (raw : RawProgram). typing.IsProgramOf raw P) raws p) q
+
+  pub one_source_law : OneSource
+  one_source_law text P Q one other = one_typed text one.raw other.raw P Q one.is_numbered other.is_numbered one.is_typed other.is_typed
+
+module _ (laws : AreOne) (never : AreNeverBoth) where
   -- a text with a tree has no fault of its tokens
   no_lex_fault : (text : List ℕ) (surface : Surface) (at : ℕ) → HasTree text surface → IsSourceFault text (Lex at) → ⊥
-  no_lex_fault text surface at has fault = lexed_never_both text has.tokens at has.are_tokens fault
+  no_lex_fault text surface at has fault = never.lexed text has.tokens at has.are_tokens fault
 
   -- a text with a tree has no fault of its grammar
   no_parse_fault : (text : List ℕ) (surface : Surface) (at : ℕ) → HasTree text surface → IsParseFault text at → ⊥
   no_parse_fault text surface at has fault =
-      let tokens : has.tokens ≡ fault.tokens = one_list text has.tokens fault.tokens has.are_tokens fault.are_tokens in
-      parsed_never_both text fault.tokens surface at (subst (λ (ts : List Token). IsProgramOf text ts surface) tokens has.is_tree) fault.is_fault
+      let tokens : has.tokens ≡ fault.tokens = laws.one_list text has.tokens fault.tokens has.are_tokens fault.are_tokens in
+      never.parsed text fault.tokens surface at (subst (λ (ts : List Token). IsProgramOf text ts surface) tokens has.is_tree) fault.is_fault
 
   -- a text with a numbered program has no fault of scope
-  no_scope_fault : (text : List ℕ) (raw : RawProgram) (kind : ScopeKind) (at : ℕ) → HasNumbering text raw → IsScopeFault text kind at → ⊥
+  no_scope_fault : (text : List ℕ) (raw : RawProgram) (kind : ScopeKind) (at : ℕ) → IsNumbered text raw → IsScopeFault text kind at → ⊥
   no_scope_fault text raw kind at has fault =
-      let surfaces : has.surface ≡ fault.surface = one_surface one_list one_tree one_numbering text has.surface fault.surface has.has_tree (tree_of_fault fault) in
-      resolved_never_both fault.surface raw (record { kind = kind; at = at }) (subst (λ (s : Surface). IsNumbering s raw) surfaces has.is_numbering) fault.is_fault
+      let surfaces : has.surface ≡ fault.surface = one_surface laws text has.surface fault.surface (tree_of_numbered has) (tree_of_fault fault) in
+      never.resolved fault.surface raw (record { kind = kind; at = at }) (subst (λ (s : Surface). IsNumbering s raw) surfaces has.is_numbering) fault.is_fault
+
+  -- a text with a typed program has no fault of typing
+  no_typing_fault : (text : List ℕ) (raw : RawProgram) (P : Program) (kind : TypeKind) (at : ℕ) → IsNumbered text raw → typing.IsProgramOf raw P → IsTypingFault text kind at → ⊥
+  no_typing_fault text raw P kind at has typed fault =
+      let raws : raw ≡ fault.raw = one_raw laws text raw fault.raw has fault.is_numbered in
+      never.typed fault.raw P (broken_at kind at) (fitting laws text fault.raw fault.is_numbered) (subst (λ (r : RawProgram). typing.IsProgramOf r P) raws typed) fault.is_fault
+
+  -- a text with a program in which each definition descends has no fault of descent
+  no_descent_fault : (text : List ℕ) (P : Program) (def call : ℕ) → IsSource text P → IsDescentFault text def call → ⊥
+  no_descent_fault text P def call source fault =
+      let programs : P ≡ fault.program = one_typed laws text source.raw fault.raw P fault.program source.is_numbered fault.is_numbered source.is_typed fault.is_typed in
+      never.descends fault.program def fault.names_first.call fault.names_first.first (subst AllDescend programs source.descends)
 
   pub never_both_law : NeverBoth
-  never_both_law text P (Lex at) source fault = no_lex_fault text source.surface at (numbering_of_source source).has_tree fault
-  never_both_law text P (Parse at) source fault = no_parse_fault text source.surface at (numbering_of_source source).has_tree fault
-  never_both_law text P (Scope kind at) source fault = no_scope_fault text source.raw kind at (numbering_of_source source) fault
-  never_both_law text P Unbuilt source fault =
-      let raws : source.raw ≡ fault.raw = one_raw one_list one_tree one_numbering text source.raw fault.raw (numbering_of_source source) (numbering_of_unbuilt fault) in
-      fault.is_none P (subst (λ (raw : RawProgram). IsThinProgram raw P) raws source.is_thin)
+  never_both_law text P (Lex at) source fault = no_lex_fault text source.is_numbered.surface at (tree_of_numbered source.is_numbered) fault
+  never_both_law text P (Parse at) source fault = no_parse_fault text source.is_numbered.surface at (tree_of_numbered source.is_numbered) fault
+  never_both_law text P (Scope kind at) source fault = no_scope_fault text source.raw kind at source.is_numbered fault
+  never_both_law text P (Typing kind at) source fault = no_typing_fault text source.raw P kind at source.is_numbered source.is_typed fault
+  never_both_law text P (Descent def call) source fault = no_descent_fault text P def call source fault
+  never_both_law text P Unbuilt source fault = fault
 
   -- tokens that are no program have no lexical fault
   parse_not_lex : (text : List ℕ) (at other : ℕ) → IsParseFault text at → IsSourceFault text (Lex other) → ⊥
-  parse_not_lex text at other parse lex = lexed_never_both text parse.tokens other parse.are_tokens lex
+  parse_not_lex text at other parse lex = never.lexed text parse.tokens other parse.are_tokens lex
 
-  same_parse : parser.OneFault → (text : List ℕ) (one other : ℕ) → IsParseFault text one → IsParseFault text other → one ≡ other
-  same_parse one_fault text one other a b =
-      let tokens : a.tokens ≡ b.tokens = one_list text a.tokens b.tokens a.are_tokens b.are_tokens in
-      one_fault text b.tokens one other (subst (λ (ts : List Token). IsFaultOf text ts one) tokens a.is_fault) b.is_fault
+  module _ (ones : HaveOneFault) where
+    same_parse : (text : List ℕ) (one other : ℕ) → IsParseFault text one → IsParseFault text other → one ≡ other
+    same_parse text one other a b =
+        let tokens : a.tokens ≡ b.tokens = laws.one_list text a.tokens b.tokens a.are_tokens b.are_tokens in
+        ones.parsed text b.tokens one other (subst (λ (ts : List Token). IsFaultOf text ts one) tokens a.is_fault) b.is_fault
 
-  same_scope : scope.OneFault → (text : List ℕ) (kind last : ScopeKind) (at end : ℕ) → IsScopeFault text kind at → IsScopeFault text last end → Scope kind at ≡ Scope last end
-  same_scope one_fault text kind last at end a b =
-      let surfaces : a.surface ≡ b.surface = one_surface one_list one_tree one_numbering text a.surface b.surface (tree_of_fault a) (tree_of_fault b) in
-      let same : record { kind = kind; at = at } ≡ record { kind = last; at = end } = one_fault b.surface (record { kind = kind; at = at }) (record { kind = last; at = end }) (subst (λ (s : Surface). IsBroken s (record { kind = kind; at = at })) surfaces a.is_fault) b.is_fault in
-      ap (λ (broken : Broken). Scope broken.kind broken.at) same
+    same_scope : (text : List ℕ) (kind last : ScopeKind) (at end : ℕ) → IsScopeFault text kind at → IsScopeFault text last end → Scope kind at ≡ Scope last end
+    same_scope text kind last at end a b =
+        let surfaces : a.surface ≡ b.surface = one_surface laws text a.surface b.surface (tree_of_fault a) (tree_of_fault b) in
+        let same : record { kind = kind; at = at } ≡ record { kind = last; at = end } = ones.resolved b.surface (record { kind = kind; at = at }) (record { kind = last; at = end }) (subst (λ (s : Surface). IsBroken s (record { kind = kind; at = at })) surfaces a.is_fault) b.is_fault in
+        ap (λ (broken : Broken). Scope broken.kind broken.at) same
 
-  pub one_source_fault_law : lexer.OneFault → parser.OneFault → scope.OneFault → OneSourceFault
-  one_source_fault_law lexed parsed resolved text (Lex one) (Lex other) a b = ap Lex (lexed text one other a b)
-  one_source_fault_law lexed parsed resolved text (Parse one) (Parse other) a b = ap Parse (same_parse parsed text one other a b)
-  one_source_fault_law lexed parsed resolved text (Scope kind at) (Scope last end) a b = same_scope resolved text kind last at end a b
-  one_source_fault_law lexed parsed resolved text Unbuilt Unbuilt a b = refl
-  one_source_fault_law lexed parsed resolved text (Lex one) (Parse other) a b = absurd (parse_not_lex text other one b a)
-  one_source_fault_law lexed parsed resolved text (Parse one) (Lex other) a b = absurd (parse_not_lex text one other a b)
-  one_source_fault_law lexed parsed resolved text (Lex one) (Scope kind at) a b = absurd (no_lex_fault text b.surface one (tree_of_fault b) a)
-  one_source_fault_law lexed parsed resolved text (Scope kind at) (Lex other) a b = absurd (no_lex_fault text a.surface other (tree_of_fault a) b)
-  one_source_fault_law lexed parsed resolved text (Parse one) (Scope kind at) a b = absurd (no_parse_fault text b.surface one (tree_of_fault b) a)
-  one_source_fault_law lexed parsed resolved text (Scope kind at) (Parse other) a b = absurd (no_parse_fault text a.surface other (tree_of_fault a) b)
-  one_source_fault_law lexed parsed resolved text (Lex one) Unbuilt a b = absurd (no_lex_fault text b.surface one (numbering_of_unbuilt b).has_tree a)
-  one_source_fault_law lexed parsed resolved text Unbuilt (Lex other) a b = absurd (no_lex_fault text a.surface other (numbering_of_unbuilt a).has_tree b)
-  one_source_fault_law lexed parsed resolved text (Parse one) Unbuilt a b = absurd (no_parse_fault text b.surface one (numbering_of_unbuilt b).has_tree a)
-  one_source_fault_law lexed parsed resolved text Unbuilt (Parse other) a b = absurd (no_parse_fault text a.surface other (numbering_of_unbuilt a).has_tree b)
-  one_source_fault_law lexed parsed resolved text (Scope kind at) Unbuilt a b = absurd (no_scope_fault text b.raw kind at (numbering_of_unbuilt b) a)
-  one_source_fault_law lexed parsed resolved text Unbuilt (Scope kind at) a b = absurd (no_scope_fault text a.raw kind at (numbering_of_unbuilt a) b)
+    same_typing : (text : List ℕ) (kind last : TypeKind) (at end : ℕ) → IsTypingFault text kind at → IsTypingFault text last end → Typing kind at ≡ Typing last end
+    same_typing text kind last at end a b =
+        let raws : a.raw ≡ b.raw = one_raw laws text a.raw b.raw a.is_numbered b.is_numbered in
+        let same : broken_at kind at ≡ broken_at last end = ones.typed b.raw (broken_at kind at) (broken_at last end) (fitting laws text b.raw b.is_numbered) (subst (λ (raw : RawProgram). typing.IsFault raw (broken_at kind at)) raws a.is_fault) b.is_fault in
+        ap (λ (broken : typing_faults.Broken). Typing broken.kind broken.at) same
 
-pub accepted_is_true_law : ThinIsPlain → DerivationsAreSound → AcceptedIsTrue
-accepted_is_true_law plain sound text derivation P source derived = sound P (plain source.raw P source.is_thin) derived.trees derived.derivation
+    same_descent : (text : List ℕ) (def last call end : ℕ) → IsDescentFault text def call → IsDescentFault text last end → Descent def call ≡ Descent last end
+    same_descent text def last call end a b =
+        let programs : a.program ≡ b.program = one_typed laws text a.raw b.raw a.program b.program a.is_numbered b.is_numbered a.is_typed b.is_typed in
+        let first : NamesFirst b.program (record { def = def; call = call }) = subst (λ (P : Program). NamesFirst P (record { def = def; call = call })) programs a.names_first in
+        let capped = λ (n : ℕ). min n (2 ^ 32 - 1) in
+        let same : (def ≡ last) × (first.call ≡ b.names_first.call) = ones.descends b.program def first.call last b.names_first.call first.first b.names_first.first in
+        let one : call ≡ end = first.number ∙ (ap capped same.1 ∙ sym b.names_first.number) in
+        let defs : def ≡ last = same.0 in
+        cc
+
+    pub one_source_fault_law : OneSourceFault
+    one_source_fault_law text (Lex one) (Lex other) a b = ap Lex (ones.lexed text one other a b)
+    one_source_fault_law text (Parse one) (Parse other) a b = ap Parse (same_parse text one other a b)
+    one_source_fault_law text (Scope kind at) (Scope last end) a b = same_scope text kind last at end a b
+    one_source_fault_law text (Typing kind at) (Typing last end) a b = same_typing text kind last at end a b
+    one_source_fault_law text (Descent def call) (Descent last end) a b = same_descent text def last call end a b
+    one_source_fault_law text Unbuilt other a b = absurd a
+    one_source_fault_law text (Lex at) (Parse place) a b = absurd (parse_not_lex text place at b a)
+    one_source_fault_law text (Parse at) (Lex place) a b = absurd (parse_not_lex text at place a b)
+    one_source_fault_law text (Lex at) (Scope kind place) a b = absurd (no_lex_fault text b.surface at (tree_of_fault b) a)
+    one_source_fault_law text (Scope kind at) (Lex place) a b = absurd (no_lex_fault text a.surface place (tree_of_fault a) b)
+    one_source_fault_law text (Lex at) (Typing rule place) a b = absurd (no_lex_fault text b.is_numbered.surface at (tree_of_numbered b.is_numbered) a)
+    one_source_fault_law text (Typing rule at) (Lex place) a b = absurd (no_lex_fault text a.is_numbered.surface place (tree_of_numbered a.is_numbered) b)
+    one_source_fault_law text (Lex at) (Descent def call) a b = absurd (no_lex_fault text b.is_numbered.surface at (tree_of_numbered b.is_numbered) a)
+    one_source_fault_law text (Descent def call) (Lex place) a b = absurd (no_lex_fault text a.is_numbered.surface place (tree_of_numbered a.is_numbered) b)
+    one_source_fault_law text (Parse at) (Scope kind place) a b = absurd (no_parse_fault text b.surface at (tree_of_fault b) a)
+    one_source_fault_law text (Scope kind at) (Parse place) a b = absurd (no_parse_fault text a.surface place (tree_of_fault a) b)
+    one_source_fault_law text (Parse at) (Typing rule place) a b = absurd (no_parse_fault text b.is_numbered.surface at (tree_of_numbered b.is_numbered) a)
+    one_source_fault_law text (Typing rule at) (Parse place) a b = absurd (no_parse_fault text a.is_numbered.surface place (tree_of_numbered a.is_numbered) b)
+    one_source_fault_law text (Parse at) (Descent def call) a b = absurd (no_parse_fault text b.is_numbered.surface at (tree_of_numbered b.is_numbered) a)
+    one_source_fault_law text (Descent def call) (Parse place) a b = absurd (no_parse_fault text a.is_numbered.surface place (tree_of_numbered a.is_numbered) b)
+    one_source_fault_law text (Scope kind at) (Typing rule place) a b = absurd (no_scope_fault text b.raw kind at b.is_numbered a)
+    one_source_fault_law text (Typing rule at) (Scope kind place) a b = absurd (no_scope_fault text a.raw kind place a.is_numbered b)
+    one_source_fault_law text (Scope kind at) (Descent def call) a b = absurd (no_scope_fault text b.raw kind at b.is_numbered a)
+    one_source_fault_law text (Descent def call) (Scope kind place) a b = absurd (no_scope_fault text a.raw kind place a.is_numbered b)
+    one_source_fault_law text (Typing rule at) (Descent def call) a b = absurd (no_typing_fault text b.raw b.program rule at b.is_numbered b.is_typed a)
+    one_source_fault_law text (Descent def call) (Typing rule place) a b = absurd (no_typing_fault text a.raw a.program rule place a.is_numbered a.is_typed b)
+    one_source_fault_law text (Lex at) Unbuilt a b = absurd b
+    one_source_fault_law text (Parse at) Unbuilt a b = absurd b
+    one_source_fault_law text (Scope kind at) Unbuilt a b = absurd b
+    one_source_fault_law text (Typing rule at) Unbuilt a b = absurd b
+    one_source_fault_law text (Descent def call) Unbuilt a b = absurd b
+
+pub accepted_is_true_law : DerivationsAreSound → AcceptedIsTrue
+accepted_is_true_law sound text derivation P source plain derived = sound P plain derived.trees derived.derivation
 
 -- what stands later among the names stands among them
 one_later : (u : Use) (us : List Use) (other : Use) → Contains us other → Contains (u ∷ us) other
@@ -195,12 +269,19 @@ no_numbers text tokens surface (Err end) (scoping.Fault kind at) are tree is fau
     subst (λ (e : End). Sources text (Err e)) (sym is) (record { tokens = tokens; surface = surface; are_tokens = are; is_tree = tree; is_fault = fault })
 no_numbers text tokens surface (Err end) scoping.NoMemory are tree is fault = subst (λ (e : End). Sources text (Err e)) (sym is) tt
 
--- a text whose numbered program is not thin is no program
-pub no_thin : (text : List ℕ) (tokens : List Token) (surface : Surface) (raw : RawProgram) (thin : Result Program ThinEnd) (result : Result Program End) (refusal : ThinEnd)
-    → AreTokens text tokens → IsProgramOf text tokens surface → IsNumbering surface raw → thin ≡ Err refusal → ((P : Program) → IsThinProgram raw P → IsUnlessNoMemory P thin)
-    → IsErrAnd result (λ end. end ≡ end_of_thinning refusal) → Sources text result
-no_thin text tokens surface raw thin (Ok program) refusal are tree numbers refused only is = absurd is
-no_thin text tokens surface raw thin (Err end) thin_ends.NotThin are tree numbers refused only is =
-    let unbuilt : IsUnbuilt text = record { tokens = tokens; surface = surface; raw = raw; are_tokens = are; is_tree = tree; is_numbering = numbers; is_none = not_thin raw thin refused only } in
-    subst (λ (e : End). Sources text (Err e)) (sym is) unbuilt
-no_thin text tokens surface raw thin (Err end) thin_ends.NoMemory are tree numbers refused only is = subst (λ (e : End). Sources text (Err e)) (sym is) tt
+-- a text whose numbered program is not typed is no program
+pub no_types : (text : List ℕ) (raw : RawProgram) (result : Result Program End) (refusal : TypeEnd) → IsNumbered text raw
+    → IsErrAnd result (λ end. end ≡ end_of_typing refusal) → ((kind : TypeKind) (at : ℕ) → refusal ≡ typing_ends.Fault kind at → typing.IsFault raw (broken_at kind at)) → Sources text result
+no_types text raw (Ok program) refusal numbered is fault = absurd is
+no_types text raw (Err end) (typing_ends.Fault kind at) numbered is fault =
+    let broken : IsTypingFault text kind at = record { raw = raw; is_numbered = numbered; is_fault = fault kind at refl } in
+    subst (λ (e : End). Sources text (Err e)) (sym is) broken
+no_types text raw (Err end) typing_ends.NoMemory numbered is fault = subst (λ (e : End). Sources text (Err e)) (sym is) tt
+
+-- a text whose typed program has a definition that does not descend is no program
+pub no_descent : (text : List ℕ) (raw : RawProgram) (P : Program) (result : Result Program End) (refusal : NoDescent) → IsNumbered text raw → typing.IsProgramOf raw P
+    → IsErrAnd result (λ end. end ≡ end_of_descent refusal) → NamesFirst P refusal → Sources text result
+no_descent text raw P (Ok program) refusal numbered typed is first = absurd is
+no_descent text raw P (Err end) refusal numbered typed is first =
+    let fault : IsDescentFault text refusal.def refusal.call = record { raw = raw; program = P; is_numbered = numbered; is_typed = typed; names_first = first } in
+    subst (λ (e : End). Sources text (Err e)) (sym is) fault

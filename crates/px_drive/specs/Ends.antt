@@ -4,6 +4,7 @@ use Rattle.std.specs.Prelude.{◌≡◌, ℕ, ◌<◌, ◌≤◌, ◌⊎◌, Lis
 use Rattle.std.specs.Io.KnownBytes.{Appends, Consumes}
 use Rattle.px_terms.specs.declared.program.Program.{Program}
 use Rattle.px_terms.specs.limits.TheConstants.{PROGRAM_BYTES, DERIVATION_BYTES}
+use Rattle.px_terms.specs.Plain.{IsPlainProgram}
 use Rattle.px_terms.specs.Spelling.{IsDerivationText}
 use Rattle.px_world.specs.Known.{Told}
 use Rattle.px_world.specs.Faults.{Rose}
@@ -12,7 +13,8 @@ use Rattle.px_drive.specs.declared.outcome.CommandLine.TheVariants.{Check, Repla
 use Rattle.px_drive.specs.declared.outcome.Which.{Which}
 use Rattle.px_drive.specs.declared.outcome.Which.TheVariants as which
 use Rattle.px_drive.specs.declared.outcome.End.{End}
-use Rattle.px_drive.specs.declared.outcome.End.TheVariants.{Done, Rejected, ReadFault, WriteFault, NoMemory, TooLong}
+use Rattle.px_drive.specs.declared.outcome.End.TheVariants.{Done, Source, Rejected, ReadFault, WriteFault, NoMemory, TooLong}
+use Rattle.px_drive.specs.declared.outcome.SourceFault.TheVariants.{Unbuilt}
 use Rattle.px_drive.specs.Messages.{checked_line, accepted_line}
 use Rattle.px_drive.specs.Seen.{FilesSeen, SinkSeen}
 use Rattle.px_drive.specs.Sources.{Sources}
@@ -30,6 +32,12 @@ ReadsText text files name (Err (TooLong long)) = (long ≡ text) × ((came : Lis
 ReadsText text files name (Err ReadFault) = Rose files.before files.after × (IsTrue files.opened → (came : List ℕ) × Consumes (files.bytes name) files.left came × (length came ≤ limit_of text))
 ReadsText text files name (Err NoMemory) = ⊤
 ReadsText text files name (Err _) = ⊥
+
+-- the program is one over truth values, and is taken; or it is another, and is not taken yet
+abbrev pub TakesProgram : Program → Result (Unit {0}) End → Type 0
+TakesProgram program (Ok _) = IsPlainProgram program
+TakesProgram program (Err (Source Unbuilt)) = ¬ IsPlainProgram program
+TakesProgram program (Err _) = ⊥
 
 -- the number of obligations of a program of which the bytes are a derivation; or the bytes are none
 abbrev pub Accepts : Program → List ℕ → Result ℕ End → Type 0
@@ -57,9 +65,10 @@ LineEnds files out (Check file) =
 LineEnds files out (Replay file derivation) =
     AndThen (ReadsText which.Program files file) (λ text.
     AndThen (Sources text) (λ program.
+    AndThen (TakesProgram program) (λ taken.
     AndThen (ReadsText which.Derivation files derivation) (λ bytes.
     AndThen (Accepts program bytes) (λ n.
-    Prints (accepted_line n) out))))
+    Prints (accepted_line n) out)))))
 
 -- a line ends so, and the sink gained what the line printed
 pub record Runs (files : FilesSeen) (out : SinkSeen) (line : CommandLine) (end : End) : Type 0 where

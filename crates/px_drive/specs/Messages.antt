@@ -6,10 +6,12 @@ use Rattle.std.specs.Borrow.{Bor}
 use Rattle.px_terms.specs.declared.program.Program.{Program}
 use Rattle.px_scope.specs.declared.ends.ScopeKind.{ScopeKind}
 use Rattle.px_scope.specs.declared.ends.ScopeKind.TheVariants.{Unknown, Repeated, Later, WrongPlace}
+use Rattle.px_types.specs.declared.ends.TypeKind.{TypeKind}
+use Rattle.px_types.specs.declared.ends.TypeKind.TheVariants.{Mismatch, Arity, ArmMissing, ArmRepeated, LacksProperty, PropertyShape, NotJoin, Oversize}
 use Rattle.px_drive.specs.declared.outcome.End.{End}
 use Rattle.px_drive.specs.declared.outcome.End.TheVariants.{Done, Usage, Source, Rejected, ReadFault, WriteFault, NoMemory, TooLong}
 use Rattle.px_drive.specs.declared.outcome.SourceFault.{SourceFault}
-use Rattle.px_drive.specs.declared.outcome.SourceFault.TheVariants.{Lex, Parse, Scope, Unbuilt}
+use Rattle.px_drive.specs.declared.outcome.SourceFault.TheVariants.{Lex, Parse, Scope, Typing, Descent, Unbuilt}
 use Rattle.px_drive.specs.declared.outcome.Which.TheVariants as which
 
 -- the bytes of pieces, one after the other
@@ -31,11 +33,24 @@ scope_words Repeated = codes "repeated"
 scope_words Later = codes "later"
 scope_words WrongPlace = codes "wrong-place"
 
--- the line of a text that is no program, with its line feed
+-- a rule of typing, in words
+abbrev pub type_words : TypeKind → List ℕ
+type_words Mismatch = codes "mismatch"
+type_words Arity = codes "arity"
+type_words ArmMissing = codes "arm-missing"
+type_words ArmRepeated = codes "arm-repeated"
+type_words LacksProperty = codes "lacks-property"
+type_words PropertyShape = codes "property-shape"
+type_words NotJoin = codes "not-join"
+type_words Oversize = codes "oversize"
+
+-- the line of a text that is refused, with its line feed
 abbrev pub source_line : SourceFault → List ℕ
 source_line (Lex at) = codes "source: lex at " ++ (decimal at ++ codes "\n")
 source_line (Parse at) = codes "source: parse at " ++ (decimal at ++ codes "\n")
 source_line (Scope kind at) = codes "source: scope " ++ (scope_words kind ++ (codes " at " ++ (decimal at ++ codes "\n")))
+source_line (Typing kind at) = codes "source: type " ++ (type_words kind ++ (codes " at " ++ (decimal at ++ codes "\n")))
+source_line (Descent def call) = codes "source: descent definition " ++ (decimal def ++ (codes " call " ++ (decimal call ++ codes "\n")))
 source_line Unbuilt = codes "source: unbuilt\n"
 
 -- the line that an end prints as an error, with its line feed; where the work is done there is none

@@ -5,13 +5,14 @@ use Rattle.px_parser.specs.declared.parse_end.ParseEnd.{ParseEnd}
 use Rattle.px_parser.specs.declared.parse_end.ParseEnd.TheVariants as parsing
 use Rattle.px_scope.specs.declared.ends.ScopeEnd.{ScopeEnd}
 use Rattle.px_scope.specs.declared.ends.ScopeEnd.TheVariants as scoping
-use Rattle.px_thin.specs.declared.end.ThinEnd.{ThinEnd}
-use Rattle.px_thin.specs.declared.end.ThinEnd.TheVariants as thinning
+use Rattle.px_types.specs.declared.ends.TypeEnd.{TypeEnd}
+use Rattle.px_types.specs.declared.ends.TypeEnd.TheVariants as typing
+use Rattle.px_descent.specs.declared.end.NoDescent.{NoDescent}
 use Rattle.px_replay.specs.declared.replay.ReplayEnd.{ReplayEnd}
 use Rattle.px_replay.specs.declared.replay.ReplayEnd.TheVariants as replaying
 use Rattle.px_drive.specs.declared.outcome.End.{End}
 use Rattle.px_drive.specs.declared.outcome.End.TheVariants.{Source, Rejected, NoMemory}
-use Rattle.px_drive.specs.declared.outcome.SourceFault.TheVariants.{Lex, Parse, Scope, Unbuilt}
+use Rattle.px_drive.specs.declared.outcome.SourceFault.TheVariants.{Lex, Parse, Scope, Typing, Descent}
 
 -- the end where a text has no tokens
 abbrev pub end_of_lexing : LexEnd → End
@@ -28,10 +29,14 @@ abbrev pub end_of_scoping : ScopeEnd → End
 end_of_scoping (scoping.Fault kind at) = Source (Scope kind at)
 end_of_scoping scoping.NoMemory = NoMemory
 
--- the end where a written program is not thin
-abbrev pub end_of_thinning : ThinEnd → End
-end_of_thinning thinning.NotThin = Source Unbuilt
-end_of_thinning thinning.NoMemory = NoMemory
+-- the end where a numbered program is not typed
+abbrev pub end_of_typing : TypeEnd → End
+end_of_typing (typing.Fault kind at) = Source (Typing kind at)
+end_of_typing typing.NoMemory = NoMemory
+
+-- the end where a definition does not descend
+abbrev pub end_of_descent : NoDescent → End
+end_of_descent refusal = Source (Descent refusal.def refusal.call)
 
 -- the end where a derivation is not accepted
 abbrev pub end_of_replaying : ReplayEnd → End

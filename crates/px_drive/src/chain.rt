@@ -4,7 +4,7 @@ ghost use Rattle.px_drive.specs.Ends.{Runs, end_of};
 ghost use Rattle.px_drive.specs.Seen.{files_seen, sink_seen, KeepsFiles};
 
 use crate::messages::{print_accepted, print_checked};
-use crate::stages::{accept, read_source, read_text};
+use crate::stages::{accept, read_source, read_text, take_program};
 use crate::{CommandLine, End, Which};
 use px_terms::Text;
 use px_world::{Files, Sink};
@@ -61,13 +61,13 @@ fn check<F: Files, O: Sink>(
     ensures out_later { O.faults out.old ≤ O.faults out.new }
 {
     let text = read_text(alloc, files, file, Which::Program)?;
-    let program = read_source(alloc, &text)?;
-    print_checked(out, &program)?;
+    let checked = read_source(alloc, &text)?;
+    print_checked(out, checked.program())?;
     Ok(())
 }
 
-/// Reads the program and the derivation, replays the derivation, and prints how many obligations were
-/// accepted.
+/// Reads the program, takes it where it is one over truth values, reads the derivation and replays it, and prints how
+/// many obligations were accepted.
 fn replay<F: Files, O: Sink>(
     alloc: Global,
     file: &Text,
@@ -83,9 +83,10 @@ fn replay<F: Files, O: Sink>(
     ensures out_later { O.faults out.old ≤ O.faults out.new }
 {
     let text = read_text(alloc, files, file, Which::Program)?;
-    let program = read_source(alloc, &text)?;
+    let checked = read_source(alloc, &text)?;
+    take_program(&checked)?;
     let steps = read_text(alloc, files, derivation, Which::Derivation)?;
-    let obligations = accept(alloc, &program, &steps)?;
+    let obligations = accept(alloc, &checked, &steps)?;
     print_accepted(out, obligations)?;
     Ok(())
 }

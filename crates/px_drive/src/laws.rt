@@ -3,11 +3,12 @@
 
 ghost use Rattle.px_drive.specs.Laws.{OneSource, OneSourceFault, NeverBoth, ScopeFaultIsFirst, AcceptedIsTrue, UsageByWords, DoneOrUsage, EndsAreNamed, SourceIsFaulty, FaultyIsSource, DoneIsChecked, DoneIsReplayed, RejectedIsRefused, TooLongIsLonger, LongIsTooLong, LongIsNotReplayed, RefusalsPrintNothing};
 
+use px_descent::{one_first_stuck, stuck_excludes_descent};
 use px_lexer::one_list;
-use px_parser::one_tree;
-use px_scope::{each_name_is_listed, fault_is_first, names_rise, one_numbering};
+use px_parser::{one_tree, trees_are_fine};
+use px_scope::{each_name_is_listed, fault_is_first, names_rise, numberings_fit, one_numbering};
 use px_soundness::derivations_are_sound;
-use px_thin::{one_thin_program, thin_is_plain};
+use px_types::{never_typed_and_broken, one_first_fault, one_program};
 
 /// A text is at most one program.
 pub fn one_source()
@@ -15,8 +16,10 @@ pub fn one_source()
 {
     one_list();
     one_tree();
+    trees_are_fine();
     one_numbering();
-    one_thin_program();
+    numberings_fit();
+    one_program();
 }
 
 /// A text has at most one fault.
@@ -27,11 +30,18 @@ pub fn one_source_fault()
     px_lexer::one_fault();
     px_lexer::never_both();
     one_tree();
+    trees_are_fine();
     px_parser::one_fault();
     px_parser::never_both();
     one_numbering();
+    numberings_fit();
     px_scope::one_fault();
     px_scope::never_both();
+    one_program();
+    one_first_fault();
+    never_typed_and_broken();
+    one_first_stuck();
+    stuck_excludes_descent();
 }
 
 /// No text is a program and has a fault.
@@ -41,9 +51,14 @@ pub fn never_both()
     one_list();
     px_lexer::never_both();
     one_tree();
+    trees_are_fine();
     px_parser::never_both();
     one_numbering();
+    numberings_fit();
     px_scope::never_both();
+    one_program();
+    never_typed_and_broken();
+    stuck_excludes_descent();
 }
 
 /// A fault of scope is at the least byte of the text at which a name breaks a rule.
@@ -55,11 +70,10 @@ pub fn scope_fault_is_first()
     each_name_is_listed();
 }
 
-/// A derivation of the program of a text shows that each of its obligations holds.
+/// A derivation of the program of a text, which is one over truth values, shows that each of its obligations holds.
 pub fn accepted_is_true()
     ensures { AcceptedIsTrue }
 {
-    thin_is_plain();
     derivations_are_sound();
 }
 
@@ -78,16 +92,18 @@ pub fn ends_are_named()
     ensures { EndsAreNamed }
 {}
 
-/// Where a line ends with a fault of the program's text, the bytes that were read have it.
+/// Where a line ends with a fault of the program's text, the bytes that were read have it, or are a program that the line
+/// doesn't take.
 pub fn source_is_faulty()
     ensures { SourceIsFaulty }
 {}
 
-/// A program's text that is told, within its limit, and has a fault is refused for it, but for a fault of
-/// reading or want of memory.
+/// A program's text that is told, within its limit, and has a fault, or is a program that the line doesn't take, is refused
+/// for that, but for a fault of reading or want of memory.
 pub fn faulty_is_source()
     ensures { FaultyIsSource }
 {
+    one_source();
     one_source_fault();
     never_both();
 }
@@ -97,8 +113,8 @@ pub fn done_is_checked()
     ensures { DoneIsChecked }
 {}
 
-/// Where `replay` ends `Done`, the derivation is one of the program, and the number of obligations was
-/// printed.
+/// Where `replay` ends `Done`, the program is one over truth values, the derivation is one of it, and the number of
+/// obligations was printed.
 pub fn done_is_replayed()
     ensures { DoneIsReplayed }
 {}

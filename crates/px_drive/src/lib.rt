@@ -8,6 +8,8 @@
 #![tactic(auto)]
 
 mod chain;
+#[cfg(test)]
+mod check_tests;
 mod command;
 pub mod laws;
 mod line;

@@ -1,6 +1,6 @@
 ghost use Rattle.std.specs.Prelude.{◌≡◌, ◌≤◌, ◌++◌, codes};
 ghost use Rattle.std.specs.Fmt.{decimal};
-ghost use Rattle.px_drive.specs.Messages.{checked_line, accepted_line, scope_words, source_line, message_of, status_of, bytes_of_all};
+ghost use Rattle.px_drive.specs.Messages.{checked_line, accepted_line, scope_words, type_words, source_line, message_of, status_of, bytes_of_all};
 ghost use Rattle.px_drive.specs.Answers.{Tells};
 ghost use Rattle.px_drive.specs.Seen.{sink_seen, Writes};
 
@@ -8,6 +8,7 @@ use crate::{End, Outcome, SourceFault, Which};
 use itoa::Buffer;
 use px_scope::ScopeKind;
 use px_terms::Program;
+use px_types::TypeKind;
 use px_world::{Sink, WriteFault, write_all};
 
 /// The status that the program ends with: 0 where the work is done, and a number of its own for each
@@ -55,24 +56,54 @@ fn write_source<E: Sink>(fault: SourceFault, err: &mut E) -> Result<(), WriteFau
     match fault {
         SourceFault::Lex { at } => write_place(b"source: lex at ", at, err),
         SourceFault::Parse { at } => write_place(b"source: parse at ", at, err),
-        SourceFault::Scope { kind, at } => write_scope(kind, at, err),
+        SourceFault::Scope { kind, at } => {
+            write_rule(b"source: scope ", rule_of_scope(kind), at, err)
+        }
+        SourceFault::Typing { kind, at } => {
+            write_rule(b"source: type ", rule_of_typing(kind), at, err)
+        }
+        SourceFault::Descent { def, call } => write_descent(def, call, err),
         SourceFault::Unbuilt => write_line(err, b"source: unbuilt\n"),
     }
 }
 
-/// Writes the line of a name that breaks a rule of scope.
-fn write_scope<E: Sink>(kind: ScopeKind, at: u32, err: &mut E) -> Result<(), WriteFault>
-    ensures writes { Writes (source_line (SourceFault.Scope kind at)) (sink_seen E.Sink err.old err.new) result }
+/// Writes these bytes, a rule, the place that breaks it, and a line feed.
+fn write_rule<E: Sink>(
+    before: &[u8],
+    rule: &str,
+    at: u32,
+    err: &mut E,
+) -> Result<(), WriteFault>
+    ensures writes { Writes (before.now ++ (rule.now ++ (codes " at " ++ (decimal at ++ codes "\n")))) (sink_seen E.Sink err.old err.new) result }
     ensures later { E.faults err.old ≤ E.faults err.new }
 {
     let mut digits = Buffer::new();
     write_pieces(
         err,
         &[
-            b"source: scope ",
-            words(kind).as_bytes(),
+            before,
+            rule.as_bytes(),
             b" at ",
             digits.format(at).as_bytes(),
+            b"\n",
+        ],
+    )
+}
+
+/// Writes the line of a definition that doesn't descend.
+fn write_descent<E: Sink>(def: u32, call: u32, err: &mut E) -> Result<(), WriteFault>
+    ensures writes { Writes (source_line (SourceFault.Descent def call)) (sink_seen E.Sink err.old err.new) result }
+    ensures later { E.faults err.old ≤ E.faults err.new }
+{
+    let mut definition = Buffer::new();
+    let mut number = Buffer::new();
+    write_pieces(
+        err,
+        &[
+            b"source: descent definition ",
+            definition.format(def).as_bytes(),
+            b" call ",
+            number.format(call).as_bytes(),
             b"\n",
         ],
     )
@@ -88,7 +119,7 @@ fn write_place<E: Sink>(before: &[u8], at: u32, err: &mut E) -> Result<(), Write
 }
 
 /// A rule of scope, in words.
-fn words(kind: ScopeKind) -> &'static str
+fn rule_of_scope(kind: ScopeKind) -> &'static str
     ensures { result.now ≡ scope_words kind }
 {
     match kind {
@@ -96,6 +127,22 @@ fn words(kind: ScopeKind) -> &'static str
         ScopeKind::Repeated => "repeated",
         ScopeKind::Later => "later",
         ScopeKind::WrongPlace => "wrong-place",
+    }
+}
+
+/// A rule of typing, in words.
+fn rule_of_typing(kind: TypeKind) -> &'static str
+    ensures { result.now ≡ type_words kind }
+{
+    match kind {
+        TypeKind::Mismatch => "mismatch",
+        TypeKind::Arity => "arity",
+        TypeKind::ArmMissing => "arm-missing",
+        TypeKind::ArmRepeated => "arm-repeated",
+        TypeKind::LacksProperty => "lacks-property",
+        TypeKind::PropertyShape => "property-shape",
+        TypeKind::NotJoin => "not-join",
+        TypeKind::Oversize => "oversize",
     }
 }
 

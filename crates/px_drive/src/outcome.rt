@@ -1,5 +1,6 @@
 use px_scope::ScopeKind;
 use px_terms::Text;
+use px_types::TypeKind;
 
 /// A plain line: the command that the words are, with its arguments.
 #[derive(Drop)]
@@ -21,7 +22,12 @@ pub enum SourceFault {
     /// The name that begins at this byte is the first that breaks a rule of scope, and this is the first rule that
     /// it breaks.
     Scope { kind: ScopeKind, at: u32 },
-    /// The text is a program, but not of the kind that can be read today.
+    /// The part that begins at this byte is the first that breaks a rule of typing, and this is the rule.
+    Typing { kind: TypeKind, at: u32 },
+    /// The definition of this number is the first that doesn't descend, and this is the number of its first self-call
+    /// that lowers no position, of those that no self-call of it raises; or 2^32 - 1 where that number is greater.
+    Descent { def: u32, call: u32 },
+    /// The text is a program, but not one over truth values, and derivations of others aren't replayed yet.
     Unbuilt,
 }
 

@@ -3,12 +3,13 @@
 ghost use Rattle.std.specs.Prelude.{◌≡◌};
 
 use crate::{End, SourceFault};
+use px_descent::NoDescent;
 use px_lexer::LexEnd;
 use px_parser::ParseEnd;
 use px_replay::ReplayEnd;
 use px_scope::ScopeEnd;
 use px_terms::NoMemory;
-use px_thin::ThinEnd;
+use px_types::TypeEnd;
 use px_world::WriteFault;
 
 impl From<NoMemory> for End {
@@ -70,16 +71,29 @@ impl From<ScopeEnd> for End {
     }
 }
 
-impl From<ThinEnd> for End {
-    ghost use Rattle.px_drive.specs.Refusals.{end_of_thinning};
+impl From<TypeEnd> for End {
+    ghost use Rattle.px_drive.specs.Refusals.{end_of_typing};
 
-    ghost from_gives = { λ refusal end. end ≡ end_of_thinning refusal };
+    ghost from_gives = { λ refusal end. end ≡ end_of_typing refusal };
 
-    fn from(refusal: ThinEnd) -> End {
+    fn from(refusal: TypeEnd) -> End {
         match refusal {
-            ThinEnd::NotThin => End::Source(SourceFault::Unbuilt),
-            ThinEnd::NoMemory => End::NoMemory,
+            TypeEnd::Fault { kind, at } => End::Source(SourceFault::Typing { kind, at }),
+            TypeEnd::NoMemory => End::NoMemory,
         }
+    }
+}
+
+impl From<NoDescent> for End {
+    ghost use Rattle.px_drive.specs.Refusals.{end_of_descent};
+
+    ghost from_gives = { λ refusal end. end ≡ end_of_descent refusal };
+
+    fn from(refusal: NoDescent) -> End {
+        End::Source(SourceFault::Descent {
+            def: refusal.def,
+            call: refusal.call,
+        })
     }
 }
 

@@ -55,18 +55,18 @@ fn text_of(alloc: Global, lines: &[&[u8]]) -> Result<Bytes, Fail> {
 /// A call of `drive` over a program named `p` and a derivation named `d`, in pieces of so many bytes, at least one. The
 /// listed calls of the files and writes of the output and of the errors fail.
 #[derive(Clone, Copy)]
-struct Call<'a> {
-    words: &'a [&'a str],
-    program: &'a [u8],
-    derivation: &'a [u8],
-    piece: usize,
-    failing_calls: &'a [u64],
-    failing_writes: &'a [u64],
-    failing_errors: &'a [u64],
+pub(crate) struct Call<'a> {
+    pub(crate) words: &'a [&'a str],
+    pub(crate) program: &'a [u8],
+    pub(crate) derivation: &'a [u8],
+    pub(crate) piece: usize,
+    pub(crate) failing_calls: &'a [u64],
+    pub(crate) failing_writes: &'a [u64],
+    pub(crate) failing_errors: &'a [u64],
 }
 
 /// The call that replays the whole derivation.
-const REPLAY: Call<'static> = Call {
+pub(crate) const REPLAY: Call<'static> = Call {
     words: &["replay", "p", "d"],
     program: OR,
     derivation: WHOLE,
@@ -77,7 +77,7 @@ const REPLAY: Call<'static> = Call {
 };
 
 /// The call that checks the program.
-const CHECK: Call<'static> = Call {
+pub(crate) const CHECK: Call<'static> = Call {
     words: &["check", "p"],
     program: OR,
     derivation: b"",
@@ -102,7 +102,7 @@ const OTHER_WORDS: [&[&str]; 10] = [
 ];
 
 /// Texts that are no program, and the lines that refuse them.
-const REFUSED: [(&[u8], &str); 13] = [
+const REFUSED: [(&[u8], &str); 9] = [
     (b"def f(", "source: parse at 6\n"),
     (b"def f(a: Bool,): Bool { a }", "source: parse at 14\n"),
     (b"def f(a: Bool): Bool { a", "source: parse at 24\n"),
@@ -124,20 +124,10 @@ const REFUSED: [(&[u8], &str); 13] = [
         "source: lex at 18\n",
     ),
     (b"def f(a: Bool): Bool { a } $", "source: lex at 27\n"),
-    (b"data Nat { Z, S(Nat) }", "source: unbuilt\n"),
-    (
-        b"def f(a: Bool, b: Bool): Bool with assoc { a }",
-        "source: unbuilt\n",
-    ),
-    (b"def f(a: Bool): Bool with comm { a }", "source: unbuilt\n"),
-    (
-        b"def f(a: Bool): Bool { match a { False => a } }",
-        "source: unbuilt\n",
-    ),
 ];
 
 /// Calls over other pieces, files and devices, each with its status, its output and its errors.
-const CALLS: [(Call<'static>, u8, &str, &str); 10] = [
+const CALLS: [(Call<'static>, u8, &str, &str); 15] = [
     (
         CHECK,
         0,
@@ -163,6 +153,55 @@ const CALLS: [(Call<'static>, u8, &str, &str); 10] = [
         0,
         "accepted 0\n",
         "",
+    ),
+    // Claims and replicas of programs over truth values.
+    (
+        Call {
+            program: b"def or(a: Bool, b: Bool): Bool with comm { match a { False => b, True => True } }\nclaim or: idem",
+            ..REPLAY
+        },
+        0,
+        "accepted 2\n",
+        "",
+    ),
+    (
+        Call {
+            program: b"def or(a: Bool, b: Bool): Bool with comm { match a { False => b, True => True } }\nclaim or: sel",
+            ..REPLAY
+        },
+        5,
+        "",
+        "rejected\n",
+    ),
+    (
+        Call {
+            program: b"def or(a: Bool, b: Bool): Bool with comm, idem, assoc { match a { False => b, True => True } }\n\
+replica s: Bool from False by or",
+            ..REPLAY
+        },
+        5,
+        "",
+        "rejected\n",
+    ),
+    // The program is taken before the derivation is opened.
+    (
+        Call {
+            words: &["replay", "p", "q"],
+            ..REPLAY
+        },
+        8,
+        "",
+        "read fault\n",
+    ),
+    (
+        Call {
+            words: &["replay", "p", "q"],
+            program: b"data Nat { Z, S(Nat) }",
+            ..REPLAY
+        },
+        3,
+        "",
+        "source: unbuilt\n",
     ),
     // The program is opened and read in seven calls; then the derivation is opened, and its second read fails.
     (
@@ -226,7 +265,7 @@ const CALLS: [(Call<'static>, u8, &str, &str); 10] = [
 ];
 
 /// Makes the call and compares the status and both outputs, byte for byte.
-fn expect(
+pub(crate) fn expect(
     rt: &impl Abort,
     alloc: Global,
     call: &Call,

@@ -23,7 +23,7 @@ mod rest;
 mod surface;
 mod types;
 
-pub use laws::{never_both, one_fault, one_tree};
+pub use laws::{never_both, one_fault, one_tree, trees_are_fine};
 pub use parse_end::ParseEnd;
 pub use program::parse;
 pub use surface::{

@@ -9,3 +9,4 @@ pub mod ReplayLemmas
 pub mod Results
 pub mod RowLemmas
 pub mod StepLemmas
+pub mod TruthValues

@@ -9,6 +9,7 @@ mod clauses;
 mod fields;
 mod lines;
 mod opened;
+mod plain;
 mod replay;
 mod rows;
 mod small;
@@ -16,4 +17,5 @@ mod steps;
 #[cfg(test)]
 mod tests;
 
+pub use plain::is_over_truth_values;
 pub use replay::{Accepted, ReplayEnd, replay_text};

@@ -1,11 +1,15 @@
 -- What the definitions say of every surface.
 use Rattle.std.specs.Prelude.{◌≡◌, ℕ, ◌<◌, ◌≤◌, ◌||◌, IsTrue, List, Option, Some, None, Contains, AllPairs}
+use Rattle.px_base.specs.declared.limits.TheConstants.{PROGRAM_BYTES}
 use Rattle.px_base.specs.declared.raw.RawProgram.{RawProgram}
+use Rattle.px_base.specs.Fitting.{IsFitting}
 use Rattle.px_lexer.specs.declared.token.Token.{Token}
 use Rattle.px_lexer.specs.Tokens.{AreTokens}
 use Rattle.px_parser.specs.declared.surface.Surface.{Surface}
 use Rattle.px_parser.specs.Kinds.{is_name, is_property}
 use Rattle.px_parser.specs.Faults.{IsProgramOf}
+use Rattle.px_parser.specs.Sizes.{surface_size, IsWithinNesting}
+use Rattle.px_parser.specs.Filled.{IsFilled}
 use Rattle.px_scope.specs.declared.ends.ScopeKind.{ScopeKind}
 use Rattle.px_scope.specs.Uses.{Use, Broken, first_broken}
 use Rattle.px_scope.specs.ItemUses.{text_uses}
@@ -44,3 +48,7 @@ IsListed at us = (u : Use) × Contains us u × (u.at ≡ at)
 abbrev pub EachNameIsListed : Type 0
 EachNameIsListed = (text : List ℕ) (tokens : List Token) (surface : Surface) → AreTokens text tokens → IsProgramOf text tokens surface →
     (t : Token) → Contains tokens t → IsTrue (is_name t.kind || is_property t.kind) → IsUpTo t.start (first_broken (text_uses surface.items)) → IsListed t.start (text_uses surface.items)
+
+-- the numbered program of a surface that is within the limits is as the check of types asks for it
+abbrev pub NumberingsFit : Type 0
+NumberingsFit = (surface : Surface) (P : RawProgram) → surface_size surface ≤ PROGRAM_BYTES → IsWithinNesting surface → IsFilled surface → IsNumbering surface P → IsFitting P

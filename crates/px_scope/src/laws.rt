@@ -1,4 +1,4 @@
-ghost use Rattle.px_scope.specs.Laws.{OneNumbering, OneFault, NeverBoth, NamesRise, FaultIsFirst, EachNameIsListed};
+ghost use Rattle.px_scope.specs.Laws.{OneNumbering, OneFault, NeverBoth, NamesRise, FaultIsFirst, EachNameIsListed, NumberingsFit};
 
 /// A surface has at most one numbered program.
 pub fn one_numbering()
@@ -28,4 +28,10 @@ pub fn fault_is_first()
 /// Up to the first fault of scope, each name and each property's word of the text is looked at; with `names_rise`, once.
 pub fn each_name_is_listed()
     ensures { EachNameIsListed }
+{}
+
+/// The numbered program of a surface that is within the limits, with a constructor in each datatype and an equation in each
+/// lemma, is as the check of types asks for it.
+pub fn numberings_fit()
+    ensures { NumberingsFit }
 {}

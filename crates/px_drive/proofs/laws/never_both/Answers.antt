@@ -2,4 +2,17 @@ use Rattle.px_drive.proofs.Sources as sources
 use Rattle.px_drive.proofs.laws.never_both.Goals as goal
 
 pub returns : goal.returns
-returns c = sources.never_both_law c.one_list.ensures c.never_both.ensures c.one_tree.ensures c.never_both-2.ensures c.one_numbering.ensures c.never_both-3.ensures
+returns c = sources.never_both_law (record {
+  one_list = c.one_list.ensures;
+  one_tree = c.one_tree.ensures;
+  one_numbering = c.one_numbering.ensures;
+  trees_are_fine = c.trees_are_fine.ensures;
+  numberings_fit = c.numberings_fit.ensures;
+  one_program = c.one_program.ensures;
+}) (record {
+  lexed = c.never_both.ensures;
+  parsed = c.never_both-2.ensures;
+  resolved = c.never_both-3.ensures;
+  typed = c.never_typed_and_broken.ensures;
+  descends = c.stuck_excludes_descent.ensures;
+})
