@@ -1,1 +1,4 @@
 pub mod Instances
+pub mod Sizes
+pub mod TypesOfTerms
+pub mod Total
