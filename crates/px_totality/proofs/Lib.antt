@@ -1,4 +1,5 @@
+pub mod Calls
 pub mod Instances
 pub mod Sizes
-pub mod TypesOfTerms
 pub mod Total
+pub mod TypesOfTerms
