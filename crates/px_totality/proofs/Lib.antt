@@ -3,3 +3,4 @@ pub mod Instances
 pub mod Sizes
 pub mod Total
 pub mod TypesOfTerms
+pub mod Valued
