@@ -52,7 +52,7 @@ pub record Called (Q : Program) (ts : List Ty) (gs : List Fun) (f : Fun) (hs : L
   pub means : FunMeans ts gs f g
   pub given : GivesIn Q g hs vs (ty_instance ts T)
 
-nothing_mapped : {A B : Type 0} (f : A → B) (xs : List A) → map f xs ≡ [] → xs ≡ []
+pub nothing_mapped : {A B : Type 0} (f : A → B) (xs : List A) → map f xs ≡ [] → xs ≡ []
 nothing_mapped f [] e = refl
 nothing_mapped f (x ∷ xs) e = let wrong : ⊥ = cc in absurd wrong
 

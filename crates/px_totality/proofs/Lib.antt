@@ -1,6 +1,9 @@
 pub mod Calls
+pub mod EachIsTotal
+pub mod Falling
 pub mod Instances
 pub mod Sizes
 pub mod Total
 pub mod TypesOfTerms
+pub mod Unique
 pub mod Valued

@@ -4,6 +4,7 @@ use Rattle.px_totality.proofs.TypesOfTerms.{type_of}
 use Rattle.px_totality.proofs.Total.{equal_gives}
 use Rattle.px_totality.proofs.Calls.{call_gives}
 use Rattle.px_totality.proofs.Valued.{term_valued}
+use Rattle.px_totality.proofs.EachIsTotal.{fitting_are_total}
 use Rattle.px_totality.proofs.laws.each_call_has_value.Goals as goal
 
 pub returns : goal.returns
