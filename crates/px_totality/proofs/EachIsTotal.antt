@@ -64,7 +64,7 @@ module _ (Q : Program) (typed : IsTyped Q) where
   }
 
   -- a definition without function parameters that gives values is total
-  passed_total : (m : ℕ) (D : definition.Def) (us : List Ty) → DefinitionGives Q m → slice_get Q.defs m ≡ Some D → length us ≡ D.tparams → AreTypes Q 0 us → D.funs ≡ [] → IsTotal Q (record { head = Def m; types = us }) (tys_instance us D.params) (ty_instance us D.result)
+  pub passed_total : (m : ℕ) (D : definition.Def) (us : List Ty) → DefinitionGives Q m → slice_get Q.defs m ≡ Some D → length us ≡ D.tparams → AreTypes Q 0 us → D.funs ≡ [] → IsTotal Q (record { head = Def m; types = us }) (tys_instance us D.params) (ty_instance us D.result)
   passed_total m D us gives found long ground none = record { at = λ vs are. gives.at D found us long ground [] (no_functions Q us D.funs none) vs are }
 
   module _ (n : ℕ) (earlier : (m : ℕ) → m < n → DefinitionGives Q m) (D : definition.Def) (found : slice_get Q.defs n ≡ Some D) (descends : Descends Q n D) where
@@ -115,7 +115,7 @@ module _ (Q : Program) (typed : IsTyped Q) where
   each_gives all n = numbered_gives all (suc n) n (omega arith)
 
   -- a function that takes no functions is total
-  function_is_total : AllDescend Q → {f : Fun} {takes : List FnType} {params : List Ty} {T : Ty} → IsFunction Q (functions_alone 0 []) f takes params T → takes ≡ [] → IsTotal Q f params T
+  pub function_is_total : AllDescend Q → {f : Fun} {takes : List FnType} {params : List Ty} {T : Ty} → IsFunction Q (functions_alone 0 []) f takes params T → takes ≡ [] → IsTotal Q f params T
   function_is_total all (typing.of_definition {n = n} {types = types} {D = D} found many are takes_is params_is result_is) none =
       let f : Fun = record { head = Def n; types = types } in
       subst₂ (IsTotal Q f) (sym params_is) (sym result_is) (passed_total n D types (each_gives all n) found many are (nothing_mapped (fn_type_instance types) D.funs (sym takes_is ∙ none)))

@@ -1,4 +1,5 @@
 pub mod Calls
+pub mod EachHasValue
 pub mod EachIsTotal
 pub mod Falling
 pub mod Instances

@@ -7,4 +7,4 @@
 
 mod laws;
 
-pub use laws::each_call_has_value;
+pub use laws::{each_call_has_value, each_function_has_value, each_term_has_value};
