@@ -15,8 +15,8 @@ use Rattle.px_terms.specs.Values.{IsIn, AreIn}
 use Rattle.px_terms.specs.Meaning.{Gives, Means}
 use Rattle.px_terms.specs.Typing.{Place, AreTypes, HasType}
 use Rattle.px_terms.specs.Descent.{Standing}
-use Rattle.px_totality.specs.Extending.{IsChecked, FitsType, FitValues}
-use Rattle.px_totality.specs.Extending as fitting
+use Rattle.px_terms.specs.Extending.{IsChecked, FitsType, FitValues}
+use Rattle.px_terms.specs.Extending as fitting
 use Rattle.px_totality.specs.Laws.{ExactlyOne, EachCallHasValue, EachFunctionHasValue, EachTermHasValue, IsContext}
 use Rattle.px_totality.proofs.Instances.{nothing_is_some, one_item}
 use Rattle.px_totality.proofs.Total.{GivesIn, IsTotal, AreTotal}
@@ -41,16 +41,16 @@ each_function Q checked types F f fits vs are =
 
 -- values that fit the variables stand for them
 fit_variables : (Q : Program) (types : List Ty) {vars : List (Option Ty)} {rho : List Value} → FitValues Q types vars rho → FitVariables Q types vars rho
-fit_variables Q types fitting.no_value i T at = absurd (nothing_is_some (Some T) at)
-fit_variables Q types (fitting.live_value {T = S} {v = v} first others) zero T at =
+fit_variables Q types fitting.none i T at = absurd (nothing_is_some (Some T) at)
+fit_variables Q types (fitting.live {T = S} {v = v} first others) zero T at =
     let same : S ≡ T = one_item S T (one_item (Some S) (Some T) at) in
     record { v = v; at = refl; is_in = subst (λ (T : Ty). IsIn Q (ty_instance types T) v) same first }
-fit_variables Q types (fitting.live_value {rho = rho} first others) (suc i) T at = later (fit_variables Q types others i T at)
+fit_variables Q types (fitting.live {rho = rho} first others) (suc i) T at = later (fit_variables Q types others i T at)
   where
     later : {v : Value} → IsVariable Q types rho i T → IsVariable Q types (v ∷ rho) (suc i) T
     later there = record { v = there.v; at = there.at; is_in = there.is_in }
-fit_variables Q types (fitting.gone_value others) zero T at = absurd (nothing_is_some T (one_item _ _ at))
-fit_variables Q types (fitting.gone_value {rho = rho} others) (suc i) T at =
+fit_variables Q types (fitting.gone others) zero T at = absurd (nothing_is_some T (one_item _ _ at))
+fit_variables Q types (fitting.gone {rho = rho} others) (suc i) T at =
     let there : IsVariable Q types rho i T = fit_variables Q types others i T at in record { v = there.v; at = there.at; is_in = there.is_in }
 
 -- anything that is called or passed gives a value, wherever it stands

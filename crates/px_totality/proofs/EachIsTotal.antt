@@ -23,8 +23,8 @@ use Rattle.px_terms.specs.Typing as typing
 use Rattle.px_terms.specs.Clauses.{functions_alone}
 use Rattle.px_terms.specs.TypedPrograms.{IsTyped, IsTypedDef, IsWrittenFnType, own_context}
 use Rattle.px_terms.specs.Descent.{Standing, Descends, Falls, walk, AllDescend}
-use Rattle.px_totality.specs.Extending.{IsChecked, FitsType, FitTypes, FitValues}
-use Rattle.px_totality.specs.Extending as fitting
+use Rattle.px_terms.specs.Extending.{IsChecked, FitsType, FitTypes, FitValues}
+use Rattle.px_terms.specs.Extending as fitting
 use Rattle.px_totality.specs.Laws.{IsContext}
 use Rattle.px_totality.proofs.Instances.{nothing_is_some, one_item, written_types, type_at}
 use Rattle.px_totality.proofs.Sizes.{AllStand}

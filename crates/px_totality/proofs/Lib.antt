@@ -1,6 +1,7 @@
 pub mod Calls
 pub mod EachHasValue
 pub mod EachIsTotal
+pub mod Examples
 pub mod Falling
 pub mod Instances
 pub mod Sizes

@@ -5,6 +5,8 @@
 //! programs try the definitions of extensions themselves. Nothing here runs.
 #![tactic(auto)]
 
+mod example_laws;
 mod laws;
 
+pub use example_laws::{empty_holds_of_nothing, same_of_any_fails, same_of_idempotent_holds};
 pub use laws::{each_call_has_value, each_function_has_value, each_term_has_value};

@@ -1,7 +1,7 @@
 -- Extensions of a program, the functions that fit in one, and when a clause holds in each.
-use Rattle.std.specs.Prelude.{◌≡◌, ℕ, List, [], ◌∷◌, ◌++◌, length, Option, Some, None}
-use Rattle.px_terms.specs.Prop.{Prop}
-use Rattle.px_terms.specs.PropSets.{HasProp}
+use Rattle.std.specs.Prelude.{◌≡◌, List, [], ◌∷◌, ◌++◌, length, Option, Some, None}
+use Rattle.px_base.specs.declared.prop.Prop.{Prop}
+use Rattle.px_base.specs.PropSets.{HasProp}
 use Rattle.px_terms.specs.declared.types.Ty.{Ty}
 use Rattle.px_terms.specs.declared.types.FnType.{FnType}
 use Rattle.px_terms.specs.declared.types.Fun.{Fun}
@@ -16,7 +16,7 @@ use Rattle.px_terms.specs.TypedPrograms.{IsTyped}
 use Rattle.px_terms.specs.Descent.{AllDescend}
 use Rattle.px_terms.specs.Holding.{AreTrueAt, SomeIsTrueAt}
 
--- the list begins with this one
+-- The list begins with this one.
 pub record BeginsWith {A : Type 0} (whole front : List A) : Type 0 where
   pub more : List A
   pub is : whole ≡ front ++ more
@@ -43,11 +43,13 @@ pub record FitsType (Q : Program) (types : List Ty) (wanted : FnType) (f : Fun) 
 -- each function fits the type at its place
 pub data FitTypes (Q : Program) (types : List Ty) : List FnType → List Fun → Type 0 where
   none : FitTypes Q types [] []
-  more : {F : FnType} {Fs : List FnType} {f : Fun} {fs : List Fun} → FitsType Q types F f → FitTypes Q types Fs fs → FitTypes Q types (F ∷ Fs) (f ∷ fs)
+  more : {F : FnType} {Fs : List FnType} {f : Fun} {fs : List Fun} → FitsType Q types F f → FitTypes Q types Fs fs →
+      FitTypes Q types (F ∷ Fs) (f ∷ fs)
 
 -- At these types and functions, and at all values of the variables' types at which each premise is true, some alternative is true.
 pub record IsTrueOfAll (Q : Program) (types : List Ty) (funs : List Fun) (clause : Clause) : Type 0 where
-  pub at : (rho : List Value) → AreIn Q (tys_instance types clause.vars) rho → AreTrueAt Q types funs rho clause.premises → SomeIsTrueAt Q types funs rho clause.alternatives
+  pub at : (rho : List Value) → AreIn Q (tys_instance types clause.vars) rho → AreTrueAt Q types funs rho clause.premises →
+      SomeIsTrueAt Q types funs rho clause.alternatives
 
 -- The function has the property in Q: the property fits its type, and the clause, read for this function alone, is true of all values.
 pub record HasInProgram (Q : Program) (f : Fun) (p : Prop) : Type 0 where
@@ -63,12 +65,14 @@ pub record FitsFully (Q : Program) (types : List Ty) (wanted : FnType) (f : Fun)
 
 -- each function fits the type at its place, with the properties that it assumes
 pub data FunctionsFit (Q : Program) (types : List Ty) : List FnType → List Fun → Type 0 where
-  no_function : FunctionsFit Q types [] []
-  function : {F : FnType} {Fs : List FnType} {f : Fun} {fs : List Fun} → FitsFully Q types F f → FunctionsFit Q types Fs fs → FunctionsFit Q types (F ∷ Fs) (f ∷ fs)
+  none : FunctionsFit Q types [] []
+  more : {F : FnType} {Fs : List FnType} {f : Fun} {fs : List Fun} → FitsFully Q types F f → FunctionsFit Q types Fs fs →
+      FunctionsFit Q types (F ∷ Fs) (f ∷ fs)
 
 -- in the one program Q the clause is true at all ground types and all fitting functions
 pub record HoldsInProgram (Q : Program) (clause : Clause) : Type 0 where
-  pub at : (types : List Ty) → length types ≡ clause.tparams → AreTypes Q 0 types → (funs : List Fun) → FunctionsFit Q types clause.funs funs → IsTrueOfAll Q types funs clause
+  pub at : (types : List Ty) → length types ≡ clause.tparams → AreTypes Q 0 types → (funs : List Fun) → FunctionsFit Q types clause.funs funs →
+      IsTrueOfAll Q types funs clause
 
 -- the clause holds in every extension of the program
 pub record HoldsInExtensions (P : Program) (clause : Clause) : Type 0 where
@@ -76,6 +80,7 @@ pub record HoldsInExtensions (P : Program) (clause : Clause) : Type 0 where
 
 -- a value for each variable number: of its type where the variable is live, any where it is not
 pub data FitValues (Q : Program) (types : List Ty) : List (Option Ty) → List Value → Type 0 where
-  no_value : FitValues Q types [] []
-  live_value : {T : Ty} {v : Value} {vars : List (Option Ty)} {rho : List Value} → IsIn Q (ty_instance types T) v → FitValues Q types vars rho → FitValues Q types (Some T ∷ vars) (v ∷ rho)
-  gone_value : {v : Value} {vars : List (Option Ty)} {rho : List Value} → FitValues Q types vars rho → FitValues Q types (None ∷ vars) (v ∷ rho)
+  none : FitValues Q types [] []
+  live : {T : Ty} {v : Value} {vars : List (Option Ty)} {rho : List Value} → IsIn Q (ty_instance types T) v → FitValues Q types vars rho →
+      FitValues Q types (Some T ∷ vars) (v ∷ rho)
+  gone : {v : Value} {vars : List (Option Ty)} {rho : List Value} → FitValues Q types vars rho → FitValues Q types (None ∷ vars) (v ∷ rho)
