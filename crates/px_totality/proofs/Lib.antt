@@ -1,7 +1,7 @@
 pub mod Calls
 pub mod EachHasValue
 pub mod EachIsTotal
-pub mod Examples
+pub mod ExamplePrograms
 pub mod Falling
 pub mod Instances
 pub mod Sizes

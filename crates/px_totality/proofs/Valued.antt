@@ -40,7 +40,8 @@ use Rattle.px_totality.proofs.Calls.{CallsGive, AllMeant, Called, arguments_mean
 abbrev pub seen_of : Program → ℕ → Term-F Term → Seen
 seen_of Q n y = walk_step Q n (map-Term Term Seen (walk Q n) y)
 
-seen_is : (Q : Program) (n : ℕ) (t : Term) → walk Q n t ≡ seen_of Q n (out-Term t)
+-- what is seen of a term is what is seen of its layer
+pub seen_is : (Q : Program) (n : ℕ) (t : Term) → walk Q n t ≡ seen_of Q n (out-Term t)
 seen_is Q n t = fold_out-Term Seen (walk_step Q n) t
 
 module _ {X : Type 0} (P : X → Type 0) (xs ys : List X) (all : All P (xs ++ ys)) where
