@@ -49,7 +49,7 @@ two_written : (P : Program) (T : Ty) → IsWritten P 0 T → AreWritten P 0 (T �
 two_written P T is = All-cons (IsWritten P 0) T (T ∷ []) is (one_written P T is)
 
 -- nothing is assumed of a function type without properties
-nothing_assumed : (p : Prop) → HasProp (set_of []) p → ⊥
+pub nothing_assumed : (p : Prop) → HasProp (set_of []) p → ⊥
 nothing_assumed Comm has = true≢false (sym has)
 nothing_assumed Assoc has = true≢false (sym has)
 nothing_assumed Idem has = true≢false (sym has)
@@ -84,7 +84,8 @@ never_calls P n bound = ap (λ seen. (seen bound).calls) (seen_is P n false_term
 without_calls : (P : Program) (n : ℕ) (D : definition.Def) → (walk P n D.body []).calls ≡ [] → Descends P n D
 without_calls P n D none = record { positions = []; within = All-nil (λ (p : ℕ). p < length D.params); falls = subst (All (Falls [])) (sym none) (All-nil (Falls [])) }
 
-longer_checked : IsChecked longer_program
+-- so are that of `same` and `never`
+pub longer_checked : IsChecked longer_program
 longer_checked = record {
   typed = record {
     bool = refl;

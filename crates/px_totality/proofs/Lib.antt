@@ -1,7 +1,9 @@
 pub mod Calls
+pub mod Closed
 pub mod EachHasValue
 pub mod EachIsTotal
 pub mod ExamplePrograms
+pub mod Examples
 pub mod Falling
 pub mod Instances
 pub mod Sizes

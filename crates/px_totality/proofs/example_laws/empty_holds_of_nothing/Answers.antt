@@ -1,5 +1,5 @@
-use Rattle.px_totality.proofs.ExamplePrograms.{longer_extends}
+use Rattle.px_totality.proofs.Examples.{empty_holds_of_nothing}
 use Rattle.px_totality.proofs.example_laws.empty_holds_of_nothing.Goals as goal
 
 pub returns : goal.returns
-returns c = ?
+returns c = empty_holds_of_nothing
