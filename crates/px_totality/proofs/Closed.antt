@@ -28,7 +28,8 @@ module _ (Q : Program) (us : List Ty) where
     layer_stays : {y : Ty-F Ty} → IsTypeLayer Q 0 y → Stays us (roll-Ty y)
     layer_stays typing.word = subst (Stays us) (sym type.rolls-Word) (ty_instance-Word us)
     layer_stays (typing.var none) = let wrong : ⊥ = omega (arith, none) in absurd wrong
-    layer_stays (typing.con {d = d} {args = args} found count are) = subst (Stays us) (sym (type.rolls-Con d args)) (ty_instance-Con us d args ∙ ap (type.Con d) (all_stay are))
+    layer_stays (typing.con {d = d} {args = args} found count are) =
+        subst (Stays us) (sym (type.rolls-Con d args)) (ty_instance-Con us d args ∙ ap (type.Con d) (all_stay are))
 
     all_stay : {types : List Ty} → AreTypes Q 0 types → tys_instance us types ≡ types
     all_stay typing.none = refl
@@ -45,8 +46,11 @@ module _ (Q : Program) (us : List Ty) where
   type_stays T is = subst (Stays us) (roll-out-Ty T) (layer_stays is)
 
   -- a function without variables stands for itself
-  pub means_itself : (funs : List Fun) {f : Fun} {takes : List FnType} {params : List Ty} {T : Ty} → IsFunction Q (functions_alone 0 []) f takes params T → FunMeans us funs f f
-  means_itself funs (typing.of_definition {n = n} {types = types} found count are takes_are params_are result_is) = let same : tys_instance us types ≡ types = all_stay are in λ i. Some (record { head = Def n; types = same i })
+  pub means_itself : (funs : List Fun) {f : Fun} {takes : List FnType} {params : List Ty} {T : Ty} → IsFunction Q (functions_alone 0 []) f takes params T →
+      FunMeans us funs f f
+  means_itself funs (typing.of_definition {n = n} {types = types} found count are takes_are params_are result_is) =
+      let same : tys_instance us types ≡ types = all_stay are in
+      λ i. Some (record { head = Def n; types = same i })
   means_itself funs (typing.at_most is) = refl
   means_itself funs (typing.equal is) = refl
   means_itself funs (typing.of_variable {F = F} found params_are result_is) = absurd (nothing_is_some F found)
@@ -94,8 +98,14 @@ TakenBy Q Wle types params T = (params ≡ type.Word ∷ type.Word ∷ []) × (T
 TakenBy Q Weq types params T = (params ≡ type.Word ∷ type.Word ∷ []) × (T ≡ bool_type)
 TakenBy Q (FnVar n) types params T = ⊥
 
-taken_by : (Q : Program) {f : Fun} {takes : List FnType} {params : List Ty} {T : Ty} → IsFunction Q (functions_alone 0 []) f takes params T → TakenBy Q f.head f.types params T
-taken_by Q (typing.of_definition {D = D} found count are takes_are params_are result_is) = record { D = D; found = found; params_are = params_are; result_is = result_is }
+taken_by : (Q : Program) {f : Fun} {takes : List FnType} {params : List Ty} {T : Ty} → IsFunction Q (functions_alone 0 []) f takes params T →
+    TakenBy Q f.head f.types params T
+taken_by Q (typing.of_definition {D = D} found count are takes_are params_are result_is) = record {
+  D = D;
+  found = found;
+  params_are = params_are;
+  result_is = result_is;
+}
 taken_by Q (typing.at_most is) = (refl, is)
 taken_by Q (typing.equal is) = (refl, is)
 taken_by Q (typing.of_variable {F = F} found params_are result_is) = absurd (nothing_is_some F found)
@@ -103,13 +113,15 @@ taken_by Q (typing.of_variable {F = F} found params_are result_is) = absurd (not
 one_taken : (Q : Program) (h : Head) (types a b : List Ty) (T U : Ty) → TakenBy Q h types a T → TakenBy Q h types b U → (a ≡ b) × (T ≡ U)
 one_taken Q (Def n) types a b T U x y =
     let same : x.D ≡ y.D = one_item x.D y.D (sym x.found ∙ y.found) in
-    (x.params_are ∙ ap (λ (D : definition.Def). tys_instance types D.params) same ∙ sym y.params_are, x.result_is ∙ ap (λ (D : definition.Def). ty_instance types D.result) same ∙ sym y.result_is)
+    (x.params_are ∙ ap (λ (D : definition.Def). tys_instance types D.params) same ∙ sym y.params_are, x.result_is ∙ ap
+        (λ (D : definition.Def). ty_instance types D.result) same ∙ sym y.result_is)
 one_taken Q Wle types a b T U x y = (x.0 ∙ sym y.0, x.1 ∙ sym y.1)
 one_taken Q Weq types a b T U x y = (x.0 ∙ sym y.0, x.1 ∙ sym y.1)
 one_taken Q (FnVar n) types a b T U x y = absurd x
 
 -- a function without variables takes one list of parameters, and gives one type
-pub one_type : (Q : Program) (f : Fun) (takes others : List FnType) (a b : List Ty) (T U : Ty) → IsFunction Q (functions_alone 0 []) f takes a T → IsFunction Q (functions_alone 0 []) f others b U → (a ≡ b) × (T ≡ U)
+pub one_type : (Q : Program) (f : Fun) (takes others : List FnType) (a b : List Ty) (T U : Ty) → IsFunction Q (functions_alone 0 []) f takes a T →
+    IsFunction Q (functions_alone 0 []) f others b U → (a ≡ b) × (T ≡ U)
 one_type Q f takes others a b T U x y = one_taken Q f.head f.types a b T U (taken_by Q x) (taken_by Q y)
 
 -- a function without variables is one subject

@@ -27,16 +27,24 @@ use Rattle.px_totality.proofs.Unique.{unique, unique_gift}
 
 -- what gives a value gives no other
 one_given : (Q : Program) (f : Fun) (funs : List Fun) (vs : List Value) (T : Ty) → GivesIn Q f funs vs T → ExactlyOne Q T (Gives Q f funs vs)
-one_given Q f funs vs T it = record { value = it.value; count = it.count; given = it.gives; in_type = it.in_type; no_other = λ v c given. unique_gift Q f funs vs v it.value c it.count given it.gives }
+one_given Q f funs vs T it = record {
+  value = it.value;
+  count = it.count;
+  given = it.gives;
+  in_type = it.in_type;
+  no_other = λ v c given. unique_gift Q f funs vs v it.value c it.count given it.gives;
+}
 
 pub each_call : EachCallHasValue
 each_call Q checked n D found types long ground funs fit vs are =
     one_given Q (record { head = Def n; types = types }) funs vs (ty_instance types D.result)
-    ((each_gives Q checked.typed checked.descends n).at D found types long ground funs (fitting_are_total Q checked.typed checked.descends types D.funs funs fit) vs are)
+    ((each_gives Q checked.typed checked.descends n).at D found types long ground funs
+        (fitting_are_total Q checked.typed checked.descends types D.funs funs fit) vs are)
 
 pub each_function : EachFunctionHasValue
 each_function Q checked types F f fits vs are =
-    let is_total : IsTotal Q f (tys_instance types F.params) (ty_instance types F.result) = function_is_total Q checked.typed checked.descends fits.function refl in
+    let is_total : IsTotal Q f (tys_instance types F.params) (ty_instance types F.result) =
+        function_is_total Q checked.typed checked.descends fits.function refl in
     one_given Q f [] vs (ty_instance types F.result) (is_total.at vs are)
 
 -- values that fit the variables stand for them
@@ -54,16 +62,26 @@ fit_variables Q types (fitting.gone {rho = rho} others) (suc i) T at =
     let there : IsVariable Q types rho i T = fit_variables Q types others i T at in record { v = there.v; at = there.at; is_in = there.is_in }
 
 -- anything that is called or passed gives a value, wherever it stands
-all_give : (Q : Program) (checked : IsChecked Q) (place : Place) (types : List Ty) (rho : List Value) → CallsGive Q place types rho 0 (λ (args : List Standing). Unit {0})
+all_give : (Q : Program) (checked : IsChecked Q) (place : Place) (types : List Ty) (rho : List Value) →
+    CallsGive Q place types rho 0 (λ (args : List Standing). Unit {0})
 all_give Q checked place types rho = record {
   called = λ m D ts hs args vs found may many ground totals stand self are.
       (each_gives Q checked.typed checked.descends m).at D found (tys_instance types ts) (length-map ts (ty_instance types) ∙ many) ground hs totals vs are;
   passed = λ m D ts found may many ground none.
-      passed_total Q checked.typed m D (tys_instance types ts) (each_gives Q checked.typed checked.descends m) found (length-map ts (ty_instance types) ∙ many) ground none;
+      passed_total Q checked.typed m D (tys_instance types ts) (each_gives Q checked.typed checked.descends m) found
+          (length-map ts (ty_instance types) ∙ many) ground none;
 }
 
 pub each_term : EachTermHasValue
 each_term Q checked place context is_context t T has types long ground funs fit rho values =
     let totals : AreTotal Q types context.funs funs = fitting_are_total Q checked.typed checked.descends types context.funs funs fit in
-    let it : Valued Q types funs rho [] (out-Term t) T _ = term_valued Q checked.typed place context is_context types long ground funs totals rho (fit_variables Q types values) 0 (λ (args : List Standing). Unit {0}) (all_give Q checked place types rho) t T has (λ i d within. tt) in
-    record { value = it.v; count = it.count; given = it.means; in_type = it.in_type; no_other = λ v c means. unique Q types funs rho [] (out-Term t) v it.v c it.count means it.means }
+    let it : Valued Q types funs rho [] (out-Term t) T _ =
+        term_valued Q checked.typed place context is_context types long ground funs totals rho (fit_variables Q types values) 0
+        (λ (args : List Standing). Unit {0}) (all_give Q checked place types rho) t T has (λ i d within. tt) in
+    record {
+      value = it.v;
+      count = it.count;
+      given = it.means;
+      in_type = it.in_type;
+      no_other = λ v c means. unique Q types funs rho [] (out-Term t) v it.v c it.count means it.means;
+    }

@@ -1,5 +1,6 @@
 -- What holds of the small programs, and what fails.
-use Rattle.std.proofs.Common.{◌≡◌, ℕ, zero, suc, ◌+◌, List, [], ◌∷◌, ◌++◌, map, length, Bool, true, false, Option, Some, None, slice_get, refl, sym, ap, ◌∙◌, subst, arith}
+use Rattle.std.proofs.Common.{◌≡◌, ℕ, zero, suc, ◌+◌, List, [], ◌∷◌, ◌++◌, map, length, Bool, true, false, Option, Some, None, slice_get, refl, sym, ap, ◌∙◌}
+use Rattle.std.proofs.Common.{subst, arith}
 use Rattle.std.specs.Option.{option_map, option_and_then}
 use Rattle.std.proofs.lemmas.List.{nil_from_length}
 use Rattle.px_terms.specs.Head.TheVariants.{Def, FnVar}
@@ -34,7 +35,8 @@ use Rattle.px_terms.specs.Clauses.{Subject, IsSubject, clause_for, functions_alo
 use Rattle.px_terms.specs.Holding.{IsTrueAt, SomeIsTrueAt, here, later}
 use Rattle.px_terms.specs.Extending.{IsExtension, BeginsWith, FitsType, FitsFully, FunctionsFit, IsTrueOfAll, HoldsInProgram, HoldsInExtensions}
 use Rattle.px_terms.specs.Extending as extending
-use Rattle.px_totality.specs.Examples.{first_function, two_truths, same_body, same_function, never_function, same_program, longer_program, same_clause, empty_type, empty_data, empty_program, false_clause}
+use Rattle.px_totality.specs.Examples.{first_function, two_truths, same_body, same_function, never_function, same_program, longer_program, same_clause}
+use Rattle.px_totality.specs.Examples.{empty_type, empty_data, empty_program, false_clause}
 use Rattle.px_totality.specs.ExampleLaws.{SameOfAnyFails, SameOfIdempotentHolds, EmptyHoldsOfNothing}
 use Rattle.px_totality.proofs.Instances.{nothing_is_some, one_item}
 use Rattle.px_totality.proofs.Total.{truth_is_in}
@@ -81,7 +83,9 @@ module _ (Q : Program) (types : List Ty) (funs : List Fun) (rho : List Value) wh
   true_means = of_layer_means true_term (Term-F.Con 0 1 [] []) (truth true) 0 (term.outs-Con 0 1 [] []) (con {vs = []} none refl)
 
   pub false_is_not_true : SomeIsTrueAt Q types funs rho (record { left = false_term; right = true_term } ∷ []) → ⊥
-  false_is_not_true some = not_same (same_values false_term true_term (truth false) (truth true) 0 0 false_means true_means (only_one (record { left = false_term; right = true_term }) some))
+  false_is_not_true some =
+      not_same (same_values false_term true_term (truth false) (truth true) 0 0 false_means true_means
+      (only_one (record { left = false_term; right = true_term }) some))
 
 -- what stands at the front of a list stands there in one that begins with it
 pub stands_still : {A : Type 0} (whole front : List A) (n : ℕ) (x : A) → BeginsWith whole front → slice_get front n ≡ Some x → slice_get whole n ≡ Some x
@@ -94,13 +98,20 @@ stands_still {A} whole front n x begins at = ap (λ (xs : List A). slice_get xs 
 
 -- what `same` gives, by what the function that it is given does
 module _ (Q : Program) (types : List Ty) (f : Fun) (a : Value) where
-  pub same_gives : (v : Value) (c : ℕ) → (props : List Prop) → slice_get Q.defs 0 ≡ Some (same_function props) → Gives Q f [] (a ∷ a ∷ []) v c → Means Q types (f ∷ []) (a ∷ []) (term.Call (record { head = Def 0; types = [] }) (first_function ∷ []) (term.Free 0 ∷ [])) v (0 + (0 + c + 1))
+  pub same_gives : (v : Value) (c : ℕ) → (props : List Prop) → slice_get Q.defs 0 ≡ Some (same_function props) → Gives Q f [] (a ∷ a ∷ []) v c →
+      Means Q types (f ∷ []) (a ∷ []) (term.Call (record { head = Def 0; types = [] }) (first_function ∷ []) (term.Free 0 ∷ [])) v (0 + (0 + c + 1))
   same_gives v c props found gives =
       let inside : Means Q [] (f ∷ []) (a ∷ []) same_body v (0 + c) =
-          of_layer_means Q [] (f ∷ []) (a ∷ []) same_body (Term-F.Call first_function [] (term.Free 0 ∷ term.Free 0 ∷ [])) v (0 + c) (term.outs-Call first_function [] (term.Free 0 ∷ term.Free 0 ∷ []))
-          (call {g = f} {gs = []} (more (variable_means Q [] (f ∷ []) (a ∷ []) 0 a refl) (more (variable_means Q [] (f ∷ []) (a ∷ []) 0 a refl) none refl) refl) refl tt gives refl) in
-      of_layer_means Q types (f ∷ []) (a ∷ []) (term.Call (record { head = Def 0; types = [] }) (first_function ∷ []) (term.Free 0 ∷ [])) (Term-F.Call (record { head = Def 0; types = [] }) (first_function ∷ []) (term.Free 0 ∷ [])) v (0 + (0 + c + 1)) (term.outs-Call (record { head = Def 0; types = [] }) (first_function ∷ []) (term.Free 0 ∷ []))
-      (call {g = record { head = Def 0; types = [] }} {gs = f ∷ []} (more (variable_means Q types (f ∷ []) (a ∷ []) 0 a refl) none refl) refl (refl, tt) (defined (ap (option_map (λ (d : definition.Def). d.body)) found) inside refl) refl)
+          of_layer_means Q [] (f ∷ []) (a ∷ []) same_body (Term-F.Call first_function [] (term.Free 0 ∷ term.Free 0 ∷ [])) v (0 + c)
+              (term.outs-Call first_function [] (term.Free 0 ∷ term.Free 0 ∷ []))
+          (call {g = f} {gs = []}
+              (more (variable_means Q [] (f ∷ []) (a ∷ []) 0 a refl)
+              (more (variable_means Q [] (f ∷ []) (a ∷ []) 0 a refl) none refl) refl) refl tt gives refl) in
+      of_layer_means Q types (f ∷ []) (a ∷ []) (term.Call (record { head = Def 0; types = [] }) (first_function ∷ []) (term.Free 0 ∷ []))
+          (Term-F.Call (record { head = Def 0; types = [] }) (first_function ∷ []) (term.Free 0 ∷ [])) v (0 + (0 + c + 1))
+          (term.outs-Call (record { head = Def 0; types = [] }) (first_function ∷ []) (term.Free 0 ∷ []))
+      (call {g = record { head = Def 0; types = [] }} {gs = f ∷ []} (more (variable_means Q types (f ∷ []) (a ∷ []) 0 a refl) none refl) refl (refl, tt)
+          (defined (ap (option_map (λ (d : definition.Def). d.body)) found) inside refl) refl)
 
 words_are_no_truths : (types : List Ty) → type.Word ∷ type.Word ∷ [] ≡ tys_instance types (bool_type ∷ bool_type ∷ []) → ⊥
 words_are_no_truths types e =
@@ -109,7 +120,8 @@ words_are_no_truths types e =
     cc
 
 -- no function of the program of `same` alone has the type
-no_function_fits : (types : List Ty) {f : Fun} {takes : List FnType} {params : List Ty} {T : Ty} → IsFunction (same_program []) (functions_alone 0 []) f takes params T → takes ≡ [] → params ≡ tys_instance types (bool_type ∷ bool_type ∷ []) → ⊥
+no_function_fits : (types : List Ty) {f : Fun} {takes : List FnType} {params : List Ty} {T : Ty} →
+    IsFunction (same_program []) (functions_alone 0 []) f takes params T → takes ≡ [] → params ≡ tys_instance types (bool_type ∷ bool_type ∷ []) → ⊥
 no_function_fits types (typing.of_definition {n = zero} {types = ts} {D = D} found count are takes_are params_are result_is) e p =
     let D_is : same_function [] ≡ D = one_item (same_function []) D found in
     let wrong : D.funs ≡ [] = nothing_mapped (fn_type_instance ts) D.funs (sym takes_are ∙ e) in
@@ -130,12 +142,17 @@ no_other_fits : (Q : Program) (types : List Ty) (Fs : List FnType) (funs : List 
 no_other_fits Q types _ _ extending.none e = refl
 no_other_fits Q types _ _ (extending.more first others) e = let wrong : ⊥ = cc in absurd wrong
 
-one_fits : (Q : Program) (types : List Ty) (F : FnType) (Fs : List FnType) (funs : List Fun) → FunctionsFit Q types Fs funs → Fs ≡ F ∷ [] → OneFits Q types F funs
+one_fits : (Q : Program) (types : List Ty) (F : FnType) (Fs : List FnType) (funs : List Fun) → FunctionsFit Q types Fs funs → Fs ≡ F ∷ [] →
+    OneFits Q types F funs
 one_fits Q types F _ _ extending.none e = let wrong : ⊥ = cc in absurd wrong
 one_fits Q types F _ _ (extending.more {F = G} {Fs = Fs} {f = f} {fs = fs} first others) e =
     let same : G ≡ F = cc in
     let end : Fs ≡ [] = cc in
-    record { f = f; is = ap (λ (fs : List Fun). f ∷ fs) (no_other_fits Q types Fs fs others end); fully = subst (λ (F : FnType). FitsFully Q types F f) same first }
+    record {
+      f = f;
+      is = ap (λ (fs : List Fun). f ∷ fs) (no_other_fits Q types Fs fs others end);
+      fully = subst (λ (F : FnType). FitsFully Q types F f) same first;
+    }
 
 -- The one value.
 record OneValue (Q : Program) (T : Ty) (rho : List Value) : Type 0 where
@@ -163,18 +180,28 @@ abbrev never : Fun
 never = record { head = Def 1; types = [] }
 
 never_fits : FitsFully longer_program [] (two_truths []) never
-never_fits = record { fits = record { function = typing.of_definition {D = never_function} refl refl typing.none refl refl refl }; has = λ p has. absurd (nothing_assumed p has) }
+never_fits = record {
+  fits = record { function = typing.of_definition {D = never_function} refl refl typing.none refl refl refl };
+  has = λ p has. absurd (nothing_assumed p has);
+}
 
 true_is_in : AreIn longer_program (tys_instance [] (bool_type ∷ [])) (truth true ∷ [])
-true_is_in = values.more (subst (λ (T : Ty). IsIn longer_program T (truth true)) (sym (ty_instance-Con [] 0 [])) (truth_is_in longer_program longer_checked.typed true)) values.none
+true_is_in =
+    values.more (subst (λ (T : Ty). IsIn longer_program T (truth true)) (sym (ty_instance-Con [] 0 []))
+    (truth_is_in longer_program longer_checked.typed true)) values.none
 
 fails_in_longer : HoldsInProgram longer_program (same_clause []) → ⊥
 fails_in_longer holds =
-    let some : SomeIsTrueAt longer_program [] (never ∷ []) (truth true ∷ []) (same_clause []).alternatives = (holds.at [] refl typing.none (never ∷ []) (extending.more never_fits extending.none)).at (truth true ∷ []) true_is_in tt in
+    let some : SomeIsTrueAt longer_program [] (never ∷ []) (truth true ∷ []) (same_clause []).alternatives =
+        (holds.at [] refl typing.none (never ∷ []) (extending.more never_fits extending.none)).at (truth true ∷ []) true_is_in tt in
     let says : Term = term.Call (record { head = Def 0; types = [] }) (first_function ∷ []) (term.Free 0 ∷ []) in
-    let same : SameValue longer_program [] (never ∷ []) (truth true ∷ []) says (term.Free 0) = only_one longer_program [] (never ∷ []) (truth true ∷ []) (record { left = says; right = term.Free 0 }) some in
-    let gives : Gives longer_program never [] (truth true ∷ truth true ∷ []) (truth false) 1 = defined refl (false_means longer_program [] [] (truth true ∷ truth true ∷ [])) refl in
-    not_same (same_values longer_program [] (never ∷ []) (truth true ∷ []) says (term.Free 0) (truth false) (truth true) (0 + (0 + 1 + 1)) 0 (same_gives longer_program [] never (truth true) (truth false) 1 [] refl gives) (variable_means longer_program [] (never ∷ []) (truth true ∷ []) 0 (truth true) refl) same)
+    let same : SameValue longer_program [] (never ∷ []) (truth true ∷ []) says (term.Free 0) =
+        only_one longer_program [] (never ∷ []) (truth true ∷ []) (record { left = says; right = term.Free 0 }) some in
+    let gives : Gives longer_program never [] (truth true ∷ truth true ∷ []) (truth false) 1 =
+        defined refl (false_means longer_program [] [] (truth true ∷ truth true ∷ [])) refl in
+    not_same (same_values longer_program [] (never ∷ []) (truth true ∷ []) says (term.Free 0) (truth false) (truth true) (0 + (0 + 1 + 1)) 0
+        (same_gives longer_program [] never (truth true) (truth false) 1 [] refl gives)
+        (variable_means longer_program [] (never ∷ []) (truth true ∷ []) 0 (truth true) refl) same)
 
 pub same_of_any_fails : SameOfAnyFails
 same_of_any_fails = record {
@@ -193,15 +220,21 @@ nothing_meant : (types : List Ty) (funs gs : List Fun) → FunsMean types funs [
 nothing_meant types funs [] mean = refl
 nothing_meant types funs (g ∷ gs) mean = absurd mean
 
-call_given : (Q : Program) (types : List Ty) (funs : List Fun) (rho : List Value) (f h : Fun) (args : List Term) (ws : List Value) (e : ℕ) (v : Value) (c : ℕ) → FunMeans types funs f h → MeanAll Q types funs rho [] args ws e → Means Q types funs rho (term.Call f [] args) v c → Given Q h ws v
+call_given : (Q : Program) (types : List Ty) (funs : List Fun) (rho : List Value) (f h : Fun) (args : List Term) (ws : List Value) (e : ℕ) (v : Value)
+    (c : ℕ) → FunMeans types funs f h → MeanAll Q types funs rho [] args ws e → Means Q types funs rho (term.Call f [] args) v c → Given Q h ws v
 call_given Q types funs rho f h args ws e v c stands all means =
-    let parts : OfCall Q types funs rho [] f [] args v c = rests_on Q types funs rho [] (Term-F.Call f [] args) v c (subst (λ (y : Term-F Term). MeansOf Q types funs rho [] y v c) (term.outs-Call f [] args) means) in
+    let parts : OfCall Q types funs rho [] f [] args v c =
+        rests_on Q types funs rho [] (Term-F.Call f [] args) v c
+        (subst (λ (y : Term-F Term). MeansOf Q types funs rho [] y v c) (term.outs-Call f [] args) means) in
     let one : parts.g ≡ h = one_item parts.g h (sym parts.fun_means ∙ stands) in
     let none_given : parts.gs ≡ [] = nothing_meant types funs parts.gs parts.funs_mean in
     let same = unique_all Q types funs rho [] args parts.vs ws parts.a e parts.all all in
     record {
       count = parts.b;
-      gives = subst (λ (g : Fun). Gives Q g [] ws v parts.b) one (subst (λ (gs : List Fun). Gives Q parts.g gs ws v parts.b) none_given (subst (λ (vs : List Value). Gives Q parts.g parts.gs vs v parts.b) same.0 parts.gives));
+      gives =
+          subst (λ (g : Fun). Gives Q g [] ws v parts.b) one
+          (subst (λ (gs : List Fun). Gives Q parts.g gs ws v parts.b) none_given
+          (subst (λ (vs : List Value). Gives Q parts.g parts.gs vs v parts.b) same.0 parts.gives));
     }
 
 module _ (Q : Program) (types : List Ty) (f : Fun) (fully : FitsFully Q types (two_truths (Idem ∷ [])) f) (a : Value) (is_in : IsIn Q bool_type a) where
@@ -212,7 +245,8 @@ module _ (Q : Program) (types : List Ty) (f : Fun) (fully : FitsFully Q types (t
       let s : Subject = has.subject in
       let subject : IsSubject Q (functions_alone 0 []) f [] s = has.is_subject in
       let B : Ty = ty_instance types bool_type in
-      let one : (B ∷ B ∷ [] ≡ subject.params) × (B ≡ s.result) = one_type Q f [] subject.takes (B ∷ B ∷ []) subject.params B s.result fully.fits.function subject.function in
+      let one : (B ∷ B ∷ [] ≡ subject.params) × (B ≡ s.result) =
+          one_type Q f [] subject.takes (B ∷ B ∷ []) subject.params B s.result fully.fits.function subject.function in
       let ends : ([] ≡ s.leading) × (B ≡ s.last) = same_ends [] s.leading B s.last (one.0 ∙ subject.shape) in
       let leading : s.leading ≡ [] = sym ends.0 in
       let last : s.last ≡ bool_type = sym ends.1 ∙ ty_instance-Con types 0 [] in
@@ -220,13 +254,18 @@ module _ (Q : Program) (types : List Ty) (f : Fun) (fully : FitsFully Q types (t
       let function : s.function ≡ f = subject.is_function in
       let given : s.given ≡ [] = subject.is_given in
       let same_subject : s ≡ t = λ i. record { function = function i; given = given i; leading = leading i; last = last i; result = s.result } in
-      let is_true : IsTrueOfAll Q [] [] (clause_for t Idem 0 []) = subst (λ (t : Subject). IsTrueOfAll Q [] [] (clause_for t Idem 0 [])) same_subject has.is_true in
-      let are : AreIn Q (tys_instance [] (bool_type ∷ [])) (a ∷ []) = values.more (subst (λ (T : Ty). IsIn Q T a) (sym (ty_instance-Con [] 0 [])) is_in) values.none in
+      let is_true : IsTrueOfAll Q [] [] (clause_for t Idem 0 []) =
+          subst (λ (t : Subject). IsTrueOfAll Q [] [] (clause_for t Idem 0 [])) same_subject has.is_true in
+      let are : AreIn Q (tys_instance [] (bool_type ∷ [])) (a ∷ []) =
+          values.more (subst (λ (T : Ty). IsIn Q T a) (sym (ty_instance-Con [] 0 [])) is_in) values.none in
       let says : Term = term.Call f [] (term.Free 0 ∷ term.Free 0 ∷ []) in
-      let same : SameValue Q [] [] (a ∷ []) says (term.Free 0) = only_one Q [] [] (a ∷ []) (record { left = says; right = term.Free 0 }) (is_true.at (a ∷ []) are tt) in
+      let same : SameValue Q [] [] (a ∷ []) says (term.Free 0) =
+          only_one Q [] [] (a ∷ []) (record { left = says; right = term.Free 0 }) (is_true.at (a ∷ []) are tt) in
       let a_means : Means Q [] [] (a ∷ []) (term.Free 0) a 0 = variable_means Q [] [] (a ∷ []) 0 a refl in
       let args : MeanAll Q [] [] (a ∷ []) [] (term.Free 0 ∷ term.Free 0 ∷ []) (a ∷ a ∷ []) (0 + (0 + 0)) = more a_means (more a_means none refl) refl in
-      let it : Given Q f (a ∷ a ∷ []) same.0 = call_given Q [] [] (a ∷ []) f f (term.Free 0 ∷ term.Free 0 ∷ []) (a ∷ a ∷ []) (0 + (0 + 0)) same.0 same.1 (means_itself Q [] [] fully.fits.function) args same.3 in
+      let it : Given Q f (a ∷ a ∷ []) same.0 =
+          call_given Q [] [] (a ∷ []) f f (term.Free 0 ∷ term.Free 0 ∷ []) (a ∷ a ∷ []) (0 + (0 + 0)) same.0 same.1
+          (means_itself Q [] [] fully.fits.function) args same.3 in
       let value_is = unique Q [] [] (a ∷ []) [] (out-Term (term.Free 0)) same.0 a same.2 0 same.4 a_means in
       subst (Given Q f (a ∷ a ∷ [])) value_is.0 it
 
@@ -236,27 +275,36 @@ module _ (Q : Program) (types : List Ty) (f : Fun) (fully : FitsFully Q types (t
       here (a, 0 + (0 + it.count + 1), 0, same_gives Q types f a a it.count (Idem ∷ []) found it.gives, variable_means Q types (f ∷ []) (a ∷ []) 0 a refl)
 
 pub same_of_idempotent_holds : SameOfIdempotentHolds
-same_of_idempotent_holds = record { in_each = λ Q extends. record { at = λ types count are funs fit. record { at = λ rho in_types premises. go Q extends types funs fit rho in_types } } }
+same_of_idempotent_holds = record {
+  in_each = λ Q extends. record { at = λ types count are funs fit. record { at = λ rho in_types premises. go Q extends types funs fit rho in_types } };
+}
   where
-    go : (Q : Program) → IsExtension Q (same_program (Idem ∷ [])) → (types : List Ty) (funs : List Fun) → FunctionsFit Q types (two_truths (Idem ∷ []) ∷ []) funs → (rho : List Value) → AreIn Q (tys_instance types (bool_type ∷ [])) rho → SomeIsTrueAt Q types funs rho (same_clause (Idem ∷ [])).alternatives
+    go : (Q : Program) → IsExtension Q (same_program (Idem ∷ [])) → (types : List Ty) (funs : List Fun) →
+        FunctionsFit Q types (two_truths (Idem ∷ []) ∷ []) funs → (rho : List Value) → AreIn Q (tys_instance types (bool_type ∷ [])) rho →
+        SomeIsTrueAt Q types funs rho (same_clause (Idem ∷ [])).alternatives
     go Q extends types funs fit rho in_types =
         let one : OneFits Q types (two_truths (Idem ∷ [])) funs = one_fits Q types (two_truths (Idem ∷ [])) (two_truths (Idem ∷ []) ∷ []) funs fit refl in
-        let value : OneValue Q (ty_instance types bool_type) rho = one_value Q (ty_instance types bool_type) (tys_instance types (bool_type ∷ [])) rho in_types refl in
+        let value : OneValue Q (ty_instance types bool_type) rho =
+            one_value Q (ty_instance types bool_type) (tys_instance types (bool_type ∷ [])) rho in_types refl in
         let is_in : IsIn Q bool_type value.a = subst (λ (T : Ty). IsIn Q T value.a) (ty_instance-Con types 0 []) value.is_in in
-        let found : slice_get Q.defs 0 ≡ Some (same_function (Idem ∷ [])) = stands_still Q.defs (same_function (Idem ∷ []) ∷ []) 0 (same_function (Idem ∷ [])) extends.defs refl in
+        let found : slice_get Q.defs 0 ≡ Some (same_function (Idem ∷ [])) =
+            stands_still Q.defs (same_function (Idem ∷ []) ∷ []) 0 (same_function (Idem ∷ [])) extends.defs refl in
         subst (λ (funs : List Fun). SomeIsTrueAt Q types funs rho (same_clause (Idem ∷ [])).alternatives) (sym one.is)
-        (subst (λ (rho : List Value). SomeIsTrueAt Q types (one.f ∷ []) rho (same_clause (Idem ∷ [])).alternatives) (sym value.is) (same_is_true Q types one.f one.fully value.a is_in found))
+        (subst (λ (rho : List Value). SomeIsTrueAt Q types (one.f ∷ []) rho (same_clause (Idem ∷ [])).alternatives) (sym value.is)
+            (same_is_true Q types one.f one.fully value.a is_in found))
 
 module _ (Q : Program) (found : slice_get Q.datatypes 1 ≡ Some empty_data) where
   only_constructor : (k : ℕ) (c : ConDef) → slice_get empty_data.cons k ≡ Some c → c.fields ≡ empty_type ∷ []
   only_constructor zero c at = sym (ap (λ (c : ConDef). c.fields) (one_item _ c at))
   only_constructor (suc k) c at = absurd (nothing_is_some c at)
 
-  fields_are : (d k : ℕ) (args : List Ty) (c : ConDef) → Ty-F.Con d args ≡ Ty-F.Con 1 [] → constructor_at Q d k ≡ Some c → tys_instance args c.fields ≡ empty_type ∷ []
+  fields_are : (d k : ℕ) (args : List Ty) (c : ConDef) → Ty-F.Con d args ≡ Ty-F.Con 1 [] → constructor_at Q d k ≡ Some c →
+      tys_instance args c.fields ≡ empty_type ∷ []
   fields_are d k args c e at =
       let which : d ≡ 1 = cc in
       let none_given : args ≡ [] = cc in
-      let here : slice_get empty_data.cons k ≡ Some c = sym (ap (option_and_then (λ (D : DataDef). slice_get D.cons k)) (ap (slice_get Q.datatypes) which ∙ found)) ∙ at in
+      let here : slice_get empty_data.cons k ≡ Some c =
+          sym (ap (option_and_then (λ (D : DataDef). slice_get D.cons k)) (ap (slice_get Q.datatypes) which ∙ found)) ∙ at in
       ap (tys_instance args) (only_constructor k c here) ∙ ap (λ (T : Ty). T ∷ []) (ty_instance-Con args 1 [])
 
   mutual
@@ -268,9 +316,22 @@ module _ (Q : Program) (found : slice_get Q.datatypes 1 ≡ Some empty_data) whe
     no_list values.none e = cc
     no_list (values.more {T = T} first others) e = let same : T ≡ empty_type = cc in no_layer first (ap out-Ty same ∙ type.outs-Con 1 [])
 
+-- in an extension no value is of the type of `Empty`
+of_nothing : (Q : Program) → IsExtension Q empty_program → (types : List Ty) (rho : List Value) → AreIn Q (tys_instance types (empty_type ∷ [])) rho → ⊥
+of_nothing Q extends types rho in_types =
+    let found : slice_get Q.datatypes 1 ≡ Some empty_data =
+        stands_still Q.datatypes (bool_data ∷ empty_data ∷ []) 1 empty_data extends.datatypes refl in
+    no_list Q found in_types (ap (λ (T : Ty). T ∷ []) (ty_instance-Con types 1 []))
+
 pub empty_holds_of_nothing : EmptyHoldsOfNothing
 empty_holds_of_nothing = record {
   checked = empty_checked;
-  of_nothing = record { in_each = λ Q extends. record { at = λ types count are funs fit. record { at = λ rho in_types premises. absurd (no_list Q (stands_still Q.datatypes (bool_data ∷ empty_data ∷ []) 1 empty_data extends.datatypes refl) in_types (ap (λ (T : Ty). T ∷ []) (ty_instance-Con types 1 []))) } } };
-  of_all = λ holds. false_is_not_true empty_program [] [] [] (((holds.in_each empty_program empty_extends).at [] refl typing.none [] extending.none).at [] values.none tt);
+  of_nothing = record {
+    in_each = λ Q extends. record {
+      at = λ types count are funs fit. record { at = λ rho in_types premises. absurd (of_nothing Q extends types rho in_types) };
+    };
+  };
+  of_all = λ holds.
+      let there : HoldsInProgram empty_program (false_clause []) = holds.in_each empty_program empty_extends in
+      false_is_not_true empty_program [] [] [] ((there.at [] refl typing.none [] extending.none).at [] values.none tt);
 }

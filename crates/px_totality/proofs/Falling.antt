@@ -1,5 +1,6 @@
 -- The sum of the sizes of the values at the positions where a definition descends falls at each self-call.
-use Rattle.std.proofs.Common.{◌≡◌, ◌⊎◌, inl, inr, ℕ, zero, suc, ◌+◌, ◌<◌, ◌≤◌, List, [], ◌∷◌, map, Option, Some, None, slice_get, unwrap_or, refl, sym, ap, ◌∙◌, subst, arith}
+use Rattle.std.proofs.Common.{◌≡◌, ◌⊎◌, inl, inr, ℕ, zero, suc, ◌+◌, ◌<◌, ◌≤◌, List, [], ◌∷◌, map, Option, Some, None, slice_get, unwrap_or, refl, sym, ap, ◌∙◌}
+use Rattle.std.proofs.Common.{subst, arith}
 use Rattle.std.specs.Prelude.{sum}
 use Rattle.std.specs.List.{All}
 use Rattle.std.specs.Option.{option_map}
@@ -33,7 +34,8 @@ no_more f g (p ∷ positions) all =
     omega (arith, sum_cons f p positions, sum_cons g p positions, first, rest)
 
 -- sums of which no part is more and one is less
-less : (f g : ℕ → ℕ) (positions : List ℕ) (i p : ℕ) → All (λ (p : ℕ). f p ≤ g p) positions → slice_get positions i ≡ Some p → f p < g p → sum (map f positions) < sum (map g positions)
+less : (f g : ℕ → ℕ) (positions : List ℕ) (i p : ℕ) → All (λ (p : ℕ). f p ≤ g p) positions → slice_get positions i ≡ Some p → f p < g p →
+    sum (map f positions) < sum (map g positions)
 less f g [] i p all at lower = absurd (nothing_is_some p at)
 less f g (q ∷ positions) zero p all at lower =
     let same : q ≡ p = one_item q p at in
@@ -68,4 +70,5 @@ module _ (rho : List Value) (args : List Standing) (vs : List Value) (stand : Al
   pub falls : (positions : List ℕ) → Falls positions args → sizes_at vs positions < sizes_at rho positions
   falls positions f =
       let lowered : (i p : ℕ) × (slice_get positions i ≡ Some p) × Lowers args p = f.lowered in
-      less (size_at vs) (size_at rho) positions lowered.0 lowered.1 (λ i d within. kept_size _ (f.never_raised i d within)) lowered.2 (lowered_size lowered.1 lowered.3)
+      less (size_at vs) (size_at rho) positions lowered.0 lowered.1 (λ i d within. kept_size _ (f.never_raised i d within)) lowered.2
+          (lowered_size lowered.1 lowered.3)

@@ -1,5 +1,6 @@
 -- Types put in for type variables: an instance is a type, types put in twice are put in once, and own types put in are themselves.
-use Rattle.std.proofs.Common.{◌≡◌, ℕ, zero, suc, ◌+◌, ◌<◌, List, [], ◌∷◌, map, length, Option, Some, None, slice_get, unwrap_or, refl, sym, ap, ◌∙◌, subst, arith}
+use Rattle.std.proofs.Common.{◌≡◌, ℕ, zero, suc, ◌+◌, ◌<◌, List, [], ◌∷◌, map, length, Option, Some, None, slice_get, unwrap_or, refl, sym, ap, ◌∙◌, subst}
+use Rattle.std.proofs.Common.{arith}
 use Rattle.std.specs.List.{All}
 use Rattle.std.proofs.lemmas.List.{length-map}
 use Rattle.std.proofs.lemmas.List.Elements.{All-head, All-tail}
@@ -36,13 +37,15 @@ type_at Q k _ zero T (typing.more {T = S} is are) at = subst (IsType Q k) (one_i
 type_at Q k _ (suc n) T (typing.more {types = types} is are) at = type_at Q k types n T are at
 
 -- what is put in for the variable of this number is a type
-put_in_is_type : (Q : Program) (k : ℕ) (types : List Ty) (n : ℕ) (other : Ty) → AreTypes Q k types → n < length types → IsType Q k (unwrap_or (slice_get types n) other)
+put_in_is_type : (Q : Program) (k : ℕ) (types : List Ty) (n : ℕ) (other : Ty) → AreTypes Q k types → n < length types →
+    IsType Q k (unwrap_or (slice_get types n) other)
 put_in_is_type Q k _ n other typing.none below = let wrong : ⊥ = omega (arith, below) in absurd wrong
 put_in_is_type Q k _ zero other (typing.more is are) below = is
 put_in_is_type Q k _ (suc n) other (typing.more {types = types} is are) below = put_in_is_type Q k types n other are (omega (arith, below))
 
 -- the instance of what is put in is put in for the same variable
-put_in_twice : (us types : List Ty) (n : ℕ) (other : Ty) → n < length types → ty_instance us (unwrap_or (slice_get types n) other) ≡ unwrap_or (slice_get (tys_instance us types) n) other
+put_in_twice : (us types : List Ty) (n : ℕ) (other : Ty) → n < length types →
+    ty_instance us (unwrap_or (slice_get types n) other) ≡ unwrap_or (slice_get (tys_instance us types) n) other
 put_in_twice us [] n other below = let wrong : ⊥ = omega (arith, below) in absurd wrong
 put_in_twice us (T ∷ types) zero other below = refl
 put_in_twice us (T ∷ types) (suc n) other below = put_in_twice us types n other (omega (arith, below))
@@ -54,12 +57,15 @@ module _ (Q : Program) (k : ℕ) (ts : List Ty) (are_types : AreTypes Q k ts) wh
         let e : ty_instance ts (roll-Ty Ty-F.Word) ≡ type.Word = ap (ty_instance ts) type.rolls-Word ∙ ty_instance-Word ts in
         subst (IsType Q k) (sym e) (subst (IsTypeLayer Q k) (sym type.outs-Word) typing.word)
     layer_instance_is_type (typing.var {n = n} below) =
-        let e : ty_instance ts (roll-Ty (Ty-F.Var n)) ≡ unwrap_or (slice_get ts n) (type.Var n) = ap (ty_instance ts) (type.rolls-Var n) ∙ ty_instance-Var ts n in
+        let e : ty_instance ts (roll-Ty (Ty-F.Var n)) ≡ unwrap_or (slice_get ts n) (type.Var n) =
+            ap (ty_instance ts) (type.rolls-Var n) ∙ ty_instance-Var ts n in
         subst (IsType Q k) (sym e) (put_in_is_type Q k ts n (type.Var n) are_types below)
     layer_instance_is_type (typing.con {d = d} {args = args} {D = D} found count are) =
-        let e : ty_instance ts (roll-Ty (Ty-F.Con d args)) ≡ type.Con d (tys_instance ts args) = ap (ty_instance ts) (type.rolls-Con d args) ∙ ty_instance-Con ts d args in
+        let e : ty_instance ts (roll-Ty (Ty-F.Con d args)) ≡ type.Con d (tys_instance ts args) =
+            ap (ty_instance ts) (type.rolls-Con d args) ∙ ty_instance-Con ts d args in
         let long : length (tys_instance ts args) ≡ D.tparams = length-map args (ty_instance ts) ∙ count in
-        subst (IsType Q k) (sym e) (subst (IsTypeLayer Q k) (sym (type.outs-Con d (tys_instance ts args))) (typing.con {D = D} found long (instances_are_types are)))
+        subst (IsType Q k) (sym e)
+            (subst (IsTypeLayer Q k) (sym (type.outs-Con d (tys_instance ts args))) (typing.con {D = D} found long (instances_are_types are)))
 
     -- the instances are types
     pub instances_are_types : {types : List Ty} → AreTypes Q (length ts) types → AreTypes Q k (tys_instance ts types)
@@ -82,13 +88,15 @@ module _ (Q : Program) (us ts : List Ty) where
         (ap (ty_instance us) (ty_instance-Var ts n) ∙ put_in_twice us ts n (type.Var n) below ∙ sym (ty_instance-Var (tys_instance us ts) n))
     layer_twice (typing.con {d = d} {args = args} found count are) =
         subst (λ (T : Ty). ty_instance us (ty_instance ts T) ≡ ty_instance (tys_instance us ts) T) (sym (type.rolls-Con d args))
-        (ap (ty_instance us) (ty_instance-Con ts d args) ∙ ty_instance-Con us d (tys_instance ts args) ∙ ap (type.Con d) (instances_twice are) ∙ sym (ty_instance-Con (tys_instance us ts) d args))
+        (ap (ty_instance us) (ty_instance-Con ts d args) ∙ ty_instance-Con us d (tys_instance ts args) ∙ ap (type.Con d) (instances_twice are) ∙ sym
+            (ty_instance-Con (tys_instance us ts) d args))
 
     -- types put in twice are put in once
     pub instances_twice : {types : List Ty} → AreTypes Q (length ts) types → tys_instance us (tys_instance ts types) ≡ tys_instance (tys_instance us ts) types
     instances_twice typing.none = refl
     instances_twice (typing.more {T = T} {types = types} is are) =
-        let first : ty_instance us (ty_instance ts T) ≡ ty_instance (tys_instance us ts) T = subst (λ (S : Ty). ty_instance us (ty_instance ts S) ≡ ty_instance (tys_instance us ts) S) (roll-out-Ty T) (layer_twice is) in
+        let first : ty_instance us (ty_instance ts T) ≡ ty_instance (tys_instance us ts) T =
+            subst (λ (S : Ty). ty_instance us (ty_instance ts S) ≡ ty_instance (tys_instance us ts) S) (roll-out-Ty T) (layer_twice is) in
         let others : tys_instance us (tys_instance ts types) ≡ tys_instance (tys_instance us ts) types = instances_twice are in
         λ i. first i ∷ others i
 
@@ -97,7 +105,8 @@ module _ (Q : Program) (us ts : List Ty) where
   instance_twice T is = subst (λ (S : Ty). ty_instance us (ty_instance ts S) ≡ ty_instance (tys_instance us ts) S) (roll-out-Ty T) (layer_twice is)
 
 -- the types from a number on, put in for the variables from it on
-own_from : (ts rest : List Ty) (s : ℕ) → ((i : ℕ) → slice_get ts (s + i) ≡ slice_get rest i) → tys_instance ts (map (λ (i : ℕ). type.Var i) (numbers_from s (length rest))) ≡ rest
+own_from : (ts rest : List Ty) (s : ℕ) → ((i : ℕ) → slice_get ts (s + i) ≡ slice_get rest i) →
+    tys_instance ts (map (λ (i : ℕ). type.Var i) (numbers_from s (length rest))) ≡ rest
 own_from ts [] s same = refl
 own_from ts (T ∷ rest) s same =
     let none : s + 0 ≡ s = omega arith in

@@ -1,5 +1,6 @@
 -- Total functions: those that give a value on all values of their types.
-use Rattle.std.proofs.Common.{◌≡◌, ℕ, zero, suc, ◌<◌, List, [], ◌∷◌, map, length, Some, slice_get, nat_le, ◌==◌, Bool, true, false, refl, sym, ap, ◌∙◌, subst, arith}
+use Rattle.std.proofs.Common.{◌≡◌, ℕ, zero, suc, ◌<◌, List, [], ◌∷◌, map, length, Some, slice_get, nat_le, ◌==◌, Bool, true, false, refl, sym, ap, ◌∙◌, subst}
+use Rattle.std.proofs.Common.{arith}
 use Rattle.std.specs.Prelude.{if◌then◌else◌}
 use Rattle.px_terms.specs.declared.types.Ty.{Ty, out-Ty}
 use Rattle.px_terms.specs.declared.types.Ty.TheVariants as type
@@ -35,7 +36,8 @@ pub record IsTotal (Q : Program) (f : Fun) (params : List Ty) (T : Ty) : Type 0 
 -- each function is total at the function type at its place
 pub data AreTotal (Q : Program) (types : List Ty) : List FnType → List Fun → Type 0 where
   no_function : AreTotal Q types [] []
-  function : {F : FnType} {Fs : List FnType} {f : Fun} {fs : List Fun} → IsTotal Q f (tys_instance types F.params) (ty_instance types F.result) → AreTotal Q types Fs fs → AreTotal Q types (F ∷ Fs) (f ∷ fs)
+  function : {F : FnType} {Fs : List FnType} {f : Fun} {fs : List Fun} → IsTotal Q f (tys_instance types F.params) (ty_instance types F.result) →
+      AreTotal Q types Fs fs → AreTotal Q types (F ∷ Fs) (f ∷ fs)
 
 -- where no function is taken, none is given
 pub none_given : (Q : Program) (types : List Ty) (Fs : List FnType) (fs : List Fun) → AreTotal Q types Fs fs → Fs ≡ [] → fs ≡ []
@@ -48,7 +50,8 @@ pub record TotalAt (Q : Program) (types : List Ty) (F : FnType) (fs : List Fun) 
   pub at : slice_get fs n ≡ Some f
   pub total : IsTotal Q f (tys_instance types F.params) (ty_instance types F.result)
 
-pub total_at : (Q : Program) (types : List Ty) (Fs : List FnType) (fs : List Fun) (n : ℕ) (F : FnType) → AreTotal Q types Fs fs → slice_get Fs n ≡ Some F → TotalAt Q types F fs n
+pub total_at : (Q : Program) (types : List Ty) (Fs : List FnType) (fs : List Fun) (n : ℕ) (F : FnType) → AreTotal Q types Fs fs → slice_get Fs n ≡ Some F →
+    TotalAt Q types F fs n
 total_at Q types _ _ n F no_function at = absurd (nothing_is_some F at)
 total_at Q types _ _ zero F (function {F = G} {f = f} first others) at =
     let same : G ≡ F = one_item G F at in
@@ -81,13 +84,21 @@ pub two_words : (Q : Program) (types : List Ty) (vs : List Value) → AreIn Q ty
 two_words Q _ _ values.none e = let wrong : ⊥ = cc in absurd wrong
 two_words Q _ _ (values.more first values.none) e = let wrong : ⊥ = cc in absurd wrong
 two_words Q _ _ (values.more {T = S} {v = v} first (values.more {T = T} {v = w} second values.none)) e =
-    record { left = v; right = w; are = refl; left_word = word_of Q v S (let h : S ≡ type.Word = cc in h) first; right_word = word_of Q w T (let h : T ≡ type.Word = cc in h) second }
+    record {
+      left = v;
+      right = w;
+      are = refl;
+      left_word = word_of Q v S (let h : S ≡ type.Word = cc in h) first;
+      right_word = word_of Q w T (let h : T ≡ type.Word = cc in h) second;
+    }
 two_words Q _ _ (values.more first (values.more second (values.more third others))) e = let wrong : ⊥ = cc in absurd wrong
 
 module _ (Q : Program) (typed : IsTyped Q) where
-  truth_layer : (b : Bool) (k : ℕ) (c : ConDef) → (if b then 1 else 0) ≡ k → slice_get bool_data.cons k ≡ Some c → AreIn Q (tys_instance [] c.fields) [] → IsIn Q bool_type (truth b)
+  truth_layer : (b : Bool) (k : ℕ) (c : ConDef) → (if b then 1 else 0) ≡ k → slice_get bool_data.cons k ≡ Some c → AreIn Q (tys_instance [] c.fields) [] →
+      IsIn Q bool_type (truth b)
   truth_layer b k c is stands are =
-      let there : constructor_at Q 0 (if b then 1 else 0) ≡ Some c = constructor_of Q 0 (if b then 1 else 0) bool_data typed.bool ∙ ap (slice_get bool_data.cons) is ∙ stands in
+      let there : constructor_at Q 0 (if b then 1 else 0) ≡ Some c =
+          constructor_of Q 0 (if b then 1 else 0) bool_data typed.bool ∙ ap (slice_get bool_data.cons) is ∙ stands in
       subst (λ (y : Ty-F Ty). IsInLayer Q y (out-Value (truth b))) (sym (type.outs-Con 0 []))
       (subst (IsInLayer Q (Ty-F.Con 0 [])) (sym (value.outs-Con 0 (if b then 1 else 0) [])) (values.con {c = c} there are))
 
@@ -97,13 +108,16 @@ module _ (Q : Program) (typed : IsTyped Q) where
   truth_is_in true = truth_layer true 1 (record { fields = [] }) refl refl values.none
 
   -- the comparisons give truth values on two words
-  pub at_most_gives : (types : List Ty) (funs : List Fun) (vs : List Value) → AreTwoWords vs → GivesIn Q (record { head = Wle; types = types }) funs vs bool_type
+  pub at_most_gives : (types : List Ty) (funs : List Fun) (vs : List Value) → AreTwoWords vs →
+      GivesIn Q (record { head = Wle; types = types }) funs vs bool_type
   at_most_gives types funs vs two =
       let b : Bool = nat_le two.left_word.word two.right_word.word in
       record {
         value = truth b;
         count = 0;
-        gives = subst (λ (vs : List Value). Gives Q (record { head = Wle; types = types }) funs vs (truth b) 0) (sym two.are) (at_most two.left_word.is two.right_word.is refl);
+        gives =
+            subst (λ (vs : List Value). Gives Q (record { head = Wle; types = types }) funs vs (truth b) 0) (sym two.are)
+            (at_most two.left_word.is two.right_word.is refl);
         in_type = truth_is_in b;
       }
 
@@ -113,6 +127,8 @@ module _ (Q : Program) (typed : IsTyped Q) where
       record {
         value = truth b;
         count = 0;
-        gives = subst (λ (vs : List Value). Gives Q (record { head = Weq; types = types }) funs vs (truth b) 0) (sym two.are) (equal two.left_word.is two.right_word.is refl);
+        gives =
+            subst (λ (vs : List Value). Gives Q (record { head = Weq; types = types }) funs vs (truth b) 0) (sym two.are)
+            (equal two.left_word.is two.right_word.is refl);
         in_type = truth_is_in b;
       }

@@ -1,5 +1,6 @@
 -- The type of a typed term is a type.
-use Rattle.std.proofs.Common.{◌≡◌, ℕ, zero, suc, ◌+◌, ◌<◌, List, [], ◌∷◌, ◌++◌, map, reverse, length, Option, Some, None, slice_get, refl, sym, ap, ◌∙◌, subst, arith}
+use Rattle.std.proofs.Common.{◌≡◌, ℕ, zero, suc, ◌+◌, ◌<◌, List, [], ◌∷◌, ◌++◌, map, reverse, length, Option, Some, None, slice_get, refl, sym, ap, ◌∙◌, subst}
+use Rattle.std.proofs.Common.{arith}
 use Rattle.std.specs.List.{All}
 use Rattle.std.specs.Option.{option_and_then}
 use Rattle.std.proofs.lemmas.Option.{get_or_from_slice_get, slice_get_within}
@@ -60,7 +61,8 @@ pub record DataType (Q : Program) (k : ℕ) (D : DataDef) (types : List Ty) : Ty
   pub long : length types ≡ D.tparams
   pub are : AreTypes Q k types
 
-data_layer : (Q : Program) (k d : ℕ) (D : DataDef) (types : List Ty) {y : Ty-F Ty} → IsTypeLayer Q k y → y ≡ Ty-F.Con d types → slice_get Q.datatypes d ≡ Some D → DataType Q k D types
+data_layer : (Q : Program) (k d : ℕ) (D : DataDef) (types : List Ty) {y : Ty-F Ty} → IsTypeLayer Q k y → y ≡ Ty-F.Con d types →
+    slice_get Q.datatypes d ≡ Some D → DataType Q k D types
 data_layer Q k d D types typing.word e found = let wrong : ⊥ = cc in absurd wrong
 data_layer Q k d D types (typing.var below) e found = let wrong : ⊥ = cc in absurd wrong
 data_layer Q k d D types (typing.con {d = f} {args = args} {D = E} stands long are) e found =
@@ -69,14 +71,16 @@ data_layer Q k d D types (typing.con {d = f} {args = args} {D = E} stands long a
     let same : E ≡ D = one_item E D (sym stands ∙ ap (slice_get Q.datatypes) which ∙ found) in
     record { long = ap length (sym given) ∙ long ∙ ap (λ (D : DataDef). D.tparams) same; are = subst (AreTypes Q k) given are }
 
-pub data_type : (Q : Program) (k d : ℕ) (D : DataDef) (types : List Ty) (T : Ty) → IsType Q k T → T ≡ type.Con d types → slice_get Q.datatypes d ≡ Some D → DataType Q k D types
+pub data_type : (Q : Program) (k d : ℕ) (D : DataDef) (types : List Ty) (T : Ty) → IsType Q k T → T ≡ type.Con d types → slice_get Q.datatypes d ≡ Some D →
+    DataType Q k D types
 data_type Q k d D types T is e found = data_layer Q k d D types is (ap out-Ty e ∙ type.outs-Con d types) found
 
 pub bool_is_type : (Q : Program) → IsTyped Q → (k : ℕ) → IsType Q k bool_type
 bool_is_type Q typed k = subst (λ (y : Ty-F Ty). IsTypeLayer Q k y) (sym (type.outs-Con 0 [])) (typing.con {D = bool_data} typed.bool refl typing.none)
 
 -- the fields of a constructor have types over as many variables as there are arguments
-pub fields_are_types : (Q : Program) (D : DataDef) (types : List Ty) (c : ConDef) → length types ≡ D.tparams → IsTypedCon Q D.tparams c → AreTypes Q (length types) c.fields
+pub fields_are_types : (Q : Program) (D : DataDef) (types : List Ty) (c : ConDef) → length types ≡ D.tparams → IsTypedCon Q D.tparams c →
+    AreTypes Q (length types) c.fields
 fields_are_types Q D types c long is = subst (λ (n : ℕ). AreTypes Q n c.fields) (sym long) (written_types Q D.tparams c.fields is)
 
 module _ (Q : Program) (typed : IsTyped Q) where
@@ -106,10 +110,13 @@ module _ (Q : Program) (typed : IsTyped Q) where
       type_of (typing.call function may types_met met arguments have) around = result_is_type function
       type_of (typing.choose {d = d} {types = types} {U = U} {D = D} on U_is found arms) around =
           let of_data : IsTypedData Q D = data_is_typed d D found in
-          type_of_arms arms D.tparams of_data.some of_data.cons (data_type Q k d D types U (type_of on around) U_is found).long (data_type Q k d D types U (type_of on around) U_is found).are around
+          type_of_arms arms D.tparams of_data.some of_data.cons (data_type Q k d D types U (type_of on around) U_is found).long
+              (data_type Q k d D types U (type_of on around) U_is found).are around
 
-      type_of_arms : {bound types : List Ty} {cs : List ConDef} {arms : List Term} {T : Ty} → HaveTypesInArms Q place context bound types cs arms T → (m : ℕ) → 0 < length cs → All (IsTypedCon Q m) cs → length types ≡ m → AreTypes Q k types → AreTypes Q k bound → IsType Q k T
+      type_of_arms : {bound types : List Ty} {cs : List ConDef} {arms : List Term} {T : Ty} → HaveTypesInArms Q place context bound types cs arms T → (m : ℕ) →
+          0 < length cs → All (IsTypedCon Q m) cs → length types ≡ m → AreTypes Q k types → AreTypes Q k bound → IsType Q k T
       type_of_arms typing.no_arm m some cons long are around = let wrong : ⊥ = omega (arith, some) in absurd wrong
       type_of_arms (typing.arm {types = types} {c = c} {cs = cs} met body arms) m some cons long are around =
-          let fields : AreTypes Q (length types) c.fields = subst (λ (n : ℕ). AreTypes Q n c.fields) (sym long) (written_types Q m c.fields (All-head (IsTypedCon Q m) c cs cons)) in
+          let fields : AreTypes Q (length types) c.fields =
+              subst (λ (n : ℕ). AreTypes Q n c.fields) (sym long) (written_types Q m c.fields (All-head (IsTypedCon Q m) c cs cons)) in
           type_of body (are_types_append Q k (are_types_reversed Q k (instances_are_types Q k types are fields)) around)
