@@ -68,7 +68,7 @@ in_at Q (suc i) T (values.more {values = vs} first others) at =
     let there : IsInAt Q T vs i = in_at Q i T others at in
     record { v = there.v; at = there.at; is_in = there.is_in }
 
-are_in_append : (Q : Program) {types others : List Ty} {vs ws : List Value} → AreIn Q types vs → AreIn Q others ws → AreIn Q (types ++ others) (vs ++ ws)
+pub are_in_append : (Q : Program) {types others : List Ty} {vs ws : List Value} → AreIn Q types vs → AreIn Q others ws → AreIn Q (types ++ others) (vs ++ ws)
 are_in_append Q values.none rest = rest
 are_in_append Q (values.more first others) rest = values.more first (are_in_append Q others rest)
 
@@ -78,7 +78,7 @@ are_in_reversed Q (values.more {T = T} {types = types} {v = v} {values = vs} fir
     subst (λ (types : List Ty). AreIn Q types (reverse (v ∷ vs))) (sym (reverse-append (T ∷ []) types))
     (subst (AreIn Q (reverse types ++ T ∷ [])) (sym (reverse-append (v ∷ []) vs)) (are_in_append Q (are_in_reversed Q others) (values.more first values.none)))
 
-as_many : (Q : Program) {types : List Ty} {vs : List Value} → AreIn Q types vs → length types ≡ length vs
+pub as_many : (Q : Program) {types : List Ty} {vs : List Value} → AreIn Q types vs → length types ≡ length vs
 as_many Q values.none = refl
 as_many Q (values.more first others) = ap suc (as_many Q others)
 
