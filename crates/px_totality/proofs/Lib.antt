@@ -7,6 +7,7 @@ pub mod ExamplePrograms
 pub mod Examples
 pub mod Falling
 pub mod Instances
+pub mod Properties
 pub mod Sizes
 pub mod Total
 pub mod TypesOfTerms
