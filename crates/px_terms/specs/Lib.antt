@@ -40,6 +40,7 @@ pub mod TypedPrograms
 pub mod TypedSequents
 pub mod Descent
 pub mod Holding
+pub mod Extending
 pub mod Obligations
 pub mod Sequents
 pub mod Steps

@@ -1,0 +1,15 @@
+pub mod Applied
+pub mod Calls
+pub mod Closed
+pub mod EachHasValue
+pub mod EachIsTotal
+pub mod ExamplePrograms
+pub mod Examples
+pub mod Falling
+pub mod Instances
+pub mod Properties
+pub mod Sizes
+pub mod Total
+pub mod TypesOfTerms
+pub mod Unique
+pub mod Valued
