@@ -95,7 +95,7 @@ pub after_absent : {T : Type 0} (word : List ℕ) (p q : List ℕ → Option (T 
 unfolding after
 after_absent word p q text e = rw e refl
 
-skipped : (word text rest : List ℕ) (u : Unit {0}) (o : Option (List ℕ)) → past word text ≡ o → option_and_then (λ (r : List ℕ). Some (tt, r)) o ≡ Some (u, rest) → text ≡ word ++ rest
+skipped : (word text rest : List ℕ) (u : Unit {0}) (o : Option (List ℕ)) → past word text ≡ o → option_and_then {U = Unit {0} × List ℕ} (λ (r : List ℕ). Some (tt, r)) o ≡ Some (u, rest) → text ≡ word ++ rest
 skipped word text rest u (Some r) same e =
     let q : Equal tt u r rest = one_read tt u r rest e in
     past_sound word text rest (same ∙ ap (λ s. Some s) q.rest)

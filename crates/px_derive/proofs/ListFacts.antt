@@ -1,11 +1,15 @@
 -- Lists are read as they are written: an item, and then each further one after a separator.
-use Rattle.std.proofs.Common.{◌≡◌, ℕ, zero, suc, ◌+◌, ◌<◌, ◌≤◌, ◌⊎◌, Bool, true, false, cond, List, [], ◌∷◌, ◌++◌, length, map, Option, Some, None, refl, sym, ap, ◌∙◌, subst, inl, inr, append_assoc, arith, length-append, ◌==◌, ◌||◌}
+use Rattle.std.proofs.Common.{◌≡◌, ℕ, zero, suc, ◌+◌, ◌<◌, ◌≤◌, ◌⊎◌, Bool, true, false, cond, List, [], ◌∷◌, ◌++◌, length, map, Option, Some, None, refl, sym, ap, ◌∙◌, subst, inl, inr, append_assoc, arith, length-append, ◌==◌, ◌||◌, ◌^◌}
+use Rattle.std.specs.Char.{is_ascii_digit}
+use Rattle.std.specs.Fmt.{decimal}
+use Rattle.std.proofs.lemmas.Bool.Decides.{nat_tests}
+use Rattle.px_derive.proofs.NumberFacts.{number_begins}
 use Rattle.px_base.specs.NameForms.{is_name_part}
 use Rattle.std.specs.Option.{option_and_then}
 use Rattle.std.specs.List.{AllByRecursion, join_with_byte, flat_map}
 use Rattle.std.proofs.lemmas.List.{append-nil}
 use Rattle.px_derive.specs.Spelling.{between}
-use Rattle.px_derive.specs.Readers.{Reader, bind, lift, pure, past, skip, after, from_there, more_of, more_at, gather, push, list_at, opened_at, closed_at}
+use Rattle.px_derive.specs.Readers.{Reader, begins, bind, lift, pure, past, skip, after, from_there, more_of, more_at, gather, push, list_at, opened_at, closed_at}
 use Rattle.px_derive.proofs.Fronts.{past_sound, past_whole}
 use Rattle.px_derive.proofs.Found.{Equal, one_read, Then, bind_found, bind_goes, Lifted, lift_found, lift_some, pure_found, There, after_found, after_there, after_absent, skip_found, skip_whole, and_then_same}
 
@@ -336,3 +340,14 @@ module _ {S T : Type 0} (item : List ℕ → Option (T × List ℕ)) (add : S �
     -- a list up to a closing mark is read where its text stands
     pub closed_complete : (final : S) (rest : List ℕ) → AllByRecursion (λ (x : T). IsRead Ends item (written x) x) (items_of final) → closed_at empty (gather 44 item add empty) (closing ∷ []) (join_with_byte 44 (map written (items_of final)) ++ closing ∷ rest) ≡ Some (final, rest)
     closed_complete final rest each = closed_list final (items_of final) rest refl each
+
+digit_item : (c : ℕ) → is_ascii_digit c ≡ true → begins_item c ≡ true
+digit_item c e = grind (arith, nat_tests)
+
+digits_start : (ds : List ℕ) → begins is_ascii_digit (ds ++ []) ≡ true → Starts ds
+digits_start [] e = absurd cc
+digits_start (c ∷ ds) e = record { first = c; others = ds; whole = refl; begins_so = digit_item c e }
+
+-- a number begins an item
+pub number_starts : (n : ℕ) → n < 2 ^ 64 → Starts (decimal n)
+number_starts n small = digits_start (decimal n) (number_begins n [] small)

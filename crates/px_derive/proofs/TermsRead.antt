@@ -27,8 +27,8 @@ use Rattle.px_derive.specs.Readers.{Reader, pure, nothing, lift, bind, past, ski
 use Rattle.px_derive.specs.Reading.{small_at, literal_at, word_at, constructor_named, angles_at, ty_at, fun_at, no_arguments, function_added, argument_added, term_of, value_at, values_at, fields_at, construction_at, some_arguments_at, arguments_at, called_at, function_at, argument_at, term_at, terms_at}
 use Rattle.px_derive.proofs.Fronts.{run_found, IsRun}
 use Rattle.px_derive.proofs.Found.{Equal, Then, bind_found, bind_goes, Lifted, lift_found, lift_some, pure_found, nothing_found, There, after_found, after_there, after_absent, Chosen, choice_found, choice_first, choice_other}
-use Rattle.px_derive.proofs.NumberFacts.{ReadNumber, number_sound, number_complete, number_begins, decimal_starts}
-use Rattle.px_derive.proofs.ListFacts.{Read, Sound, IsRead, begins_item, Starts, starts_more, Gathers, push_gathers, Opened, opened_sound, opened_complete, Closed, closed_sound, closed_complete}
+use Rattle.px_derive.proofs.NumberFacts.{ReadNumber, number_sound, number_complete, number_begins}
+use Rattle.px_derive.proofs.ListFacts.{Read, Sound, IsRead, begins_item, Starts, starts_more, number_starts, Gathers, push_gathers, Opened, opened_sound, opened_complete, Closed, closed_sound, closed_complete}
 use Rattle.px_derive.proofs.NameFacts.{constructor_of, named_constructor, IsNamedConstructor, constructor_found}
 use Rattle.px_derive.proofs.TextEquations.{term_text-Free, term_text-Lit, term_text-Con, term_text-Call}
 use Rattle.px_derive.proofs.TypesRead.{Ends, ends_word, ends_number, ends_less, ends_parenthesis, IsWord, upper_starts, word_not, word_read, HasNames, TypeIn, types_in, angles_sound, ty_sound, angles_complete, tys_complete, after_name, StartsHead, starts_of_head, starts_head_more, FunctionIn, fun_sound, fun_reads, fun_starts}
@@ -289,3 +289,218 @@ argument_sound names (suc room) text rest a e = by (after_found (codes "$") _ _ 
 pub term_sound : (names : Names) (room : ℕ) → Sound (TermIn names room) (term_text names) (term_at names room)
 unfolding term_at
 term_sound names room = value_sound names room (argument_at names room) (argument_sound names room)
+
+-- the term is read where its text stands, if it nests no deeper
+abbrev pub TermReads : Names → ℕ → Term → Type 0
+TermReads names room t = term_depth t ≤ room → IsRead Ends (argument_at names room) (term_text names t) (Value t)
+
+-- a term among arguments is a term
+pub value_complete : (names : Names) (room : ℕ) (t : Term) → IsRead Ends (argument_at names room) (term_text names t) (Value t) → IsRead Ends (term_at names room) (term_text names t) t
+unfolding term_at value_at
+value_complete names room t is = record {
+  starts = is.starts;
+  reads = λ rest ends. bind_goes (argument_at names room) _ (term_text names t ++ rest) (Value t) rest (is.reads rest ends) ∙ lift_some (term_of (Value t)) t rest refl;
+}
+
+pub terms_complete : (names : Names) (room : ℕ) (ts : List Term) → AllByRecursion (λ (t : Term). IsRead Ends (argument_at names room) (term_text names t) (Value t)) ts → AllByRecursion (λ (t : Term). IsRead Ends (term_at names room) (term_text names t) t) ts
+terms_complete names room [] each = tt
+terms_complete names room (t ∷ ts) each = (value_complete names room t each.0, terms_complete names room ts each.1)
+
+too_deep : (names : Names) (t : Term) (d : ℕ) → term_depth t ≡ 1 + d → term_depth t ≤ 0 → ⊥
+too_deep names t d e low = omega arith
+
+no_dollar : (c : ℕ) → is_ascii_uppercase c ≡ true → (36 == c) ≡ false
+no_dollar c e = grind (arith, nat_tests)
+
+digit_no_dollar : (c : ℕ) → is_ascii_digit c ≡ true → (36 == c) ≡ false
+digit_no_dollar c e = grind (arith, nat_tests)
+
+upper_no_digit : (c : ℕ) → is_ascii_uppercase c ≡ true → is_ascii_digit c ≡ false
+upper_no_digit c e = grind (arith, nat_tests)
+
+lower_no_dollar : (c : ℕ) → is_ascii_lowercase c ≡ true → (36 == c) ≡ false
+lower_no_dollar c e = grind (arith, nat_tests)
+
+lower_no_digit : (c : ℕ) → is_ascii_lowercase c ≡ true → is_ascii_digit c ≡ false
+lower_no_digit c e = grind (arith, nat_tests)
+
+lower_no_upper : (c : ℕ) → is_ascii_lowercase c ≡ true → is_ascii_uppercase c ≡ false
+lower_no_upper c e = grind (arith, nat_tests)
+
+head_no_dollar : (c : ℕ) → (is_ascii_lowercase c ≡ true) ⊎ (c ≡ 37) → (36 == c) ≡ false
+head_no_dollar c (inl is) = lower_no_dollar c is
+head_no_dollar c (inr is) = rw is refl
+
+head_no_digit : (c : ℕ) → (is_ascii_lowercase c ≡ true) ⊎ (c ≡ 37) → is_ascii_digit c ≡ false
+head_no_digit c (inl is) = lower_no_digit c is
+head_no_digit c (inr is) = rw is refl
+
+head_no_upper : (c : ℕ) → (is_ascii_lowercase c ≡ true) ⊎ (c ≡ 37) → is_ascii_uppercase c ≡ false
+head_no_upper c (inl is) = lower_no_upper c is
+head_no_upper c (inr is) = rw is refl
+
+free_reads : (names : Names) (room n : ℕ) → n < 2 ^ 32 → TermReads names room (term.Free n)
+unfolding argument_at pure
+free_reads names zero n small low = absurd (too_deep names (term.Free n) 0 (term_depth-Free n) low)
+free_reads names (suc room) n small low = record {
+  starts = rw (term_text-Free names n) (record { first = 36; others = decimal n; whole = refl; begins_so = refl });
+  reads = λ rest ends.
+      rw (term_text-Free names n) (after_there (codes "$") _ _ (decimal n ++ rest)
+      ∙ bind_goes small_at _ (decimal n ++ rest) n rest (number_complete (2 ^ 32) (lit≤ tt) n rest small (ends_number rest ends)));
+}
+
+digit_not_dollar : (text : List ℕ) → begins is_ascii_digit text ≡ true → past (codes "$") text ≡ None
+digit_not_dollar [] is = absurd cc
+digit_not_dollar (c ∷ cs) is = rw (digit_no_dollar c is) refl
+
+literal_reads : (names : Names) (room w : ℕ) → w < 2 ^ 64 → TermReads names room (term.Lit w)
+unfolding argument_at pure
+literal_reads names zero w small low = absurd (too_deep names (term.Lit w) 0 (term_depth-Lit w) low)
+literal_reads names (suc room) w small low = record {
+  starts = rw (term_text-Lit names w) (number_starts w small);
+  reads = λ rest ends.
+      rw (term_text-Lit names w) (after_absent (codes "$") _ _ (decimal w ++ rest) (digit_not_dollar (decimal w ++ rest) (number_begins w rest small))
+      ∙ choice_first (begins is_ascii_digit) _ _ (decimal w ++ rest) (number_begins w rest small)
+      ∙ bind_goes literal_at _ (decimal w ++ rest) w rest (number_complete (2 ^ 64) (lit≤ tt) w rest small (ends_number rest ends)));
+}
+
+-- what follows a constructor's name or its types: fields, or what ends it
+after_types : (ts : List (List ℕ)) (rest : List ℕ) → Ends rest → past (codes "<") (in_parentheses ts ++ rest) ≡ None
+after_types [] rest ends = ends_less rest ends
+after_types (t ∷ ts) rest ends = refl
+
+after_types_word : (ts : List (List ℕ)) (rest : List ℕ) → Ends rest → begins is_name_part (in_parentheses ts ++ rest) ≡ false
+after_types_word [] rest ends = ends_word rest ends
+after_types_word (t ∷ ts) rest ends = refl
+
+begins_first : (class : ℕ → Bool) (text rest : List ℕ) (first : ℕ) (others : List ℕ) (b : Bool) → text ≡ first ∷ others → class first ≡ b → begins class (text ++ rest) ≡ b
+begins_first class text rest first others b whole is = rw (whole) is
+
+module _ (names : Names) (has : HasNames names) (room : ℕ) where
+  construction_reads : (d k : ℕ) (types : List Ty) (fields : List Term) → IsConstructorOf names d k → AreSpellableTypes names types → tys_depth types ≤ room → AllByRecursion (λ (t : Term). IsRead Ends (argument_at names room) (term_text names t) (Value t)) fields → (rest : List ℕ) → Ends rest →
+      construction_at names (ty_at names room) (argument_at names room) (name_at (constructors_at names d) k ++ (in_angles (map (ty_text names) types) ++ (in_parentheses (map (term_text names) fields) ++ rest))) ≡ Some (Value (term.Con d k types fields), rest)
+  unfolding construction_at fields_at values_at value_at term_at pure
+  construction_reads d k types fields is spellable low each rest ends =
+      let name : List ℕ = name_at (constructors_at names d) k in
+      let angles : List ℕ = in_angles (map (ty_text names) types) in
+      let parentheses : List ℕ = in_parentheses (map (term_text names) fields) in
+      let left : List ℕ = parentheses ++ rest in
+      let w : IsWord is_ascii_uppercase name = has.upper_con d k is in
+      bind_goes word_at _ (name ++ (angles ++ left)) name (angles ++ left) (word_read is_ascii_uppercase name (angles ++ left) w (after_name (map (ty_text names) types) left (after_types_word (map (term_text names) fields) rest ends)))
+      ∙ bind_goes (lift (constructor_named names.cons name)) _ (angles ++ left) (constructor_of d k) (angles ++ left) (lift_some (constructor_named names.cons name) (constructor_of d k) (angles ++ left) (named_constructor names has.constructors d k is))
+      ∙ bind_goes (angles_at (ty_at names room)) _ (angles ++ left) types left (angles_complete names room types left (tys_complete names has room types spellable low) (after_types (map (term_text names) fields) rest ends))
+      ∙ bind_goes (opened_at (codes "(") (list_at 44 (value_at (argument_at names room))) (codes ")")) _ left fields rest (opened_complete (term_text names) (term_at names room) Ends (λ z. refl) 40 41 (λ z. refl) (λ z. refl) fields rest (terms_complete names room fields each) (ends_parenthesis rest ends))
+
+  -- a function that is no call is read where its text stands
+  pub function_reads : (f : Fun) → FunctionIn names room f → (rest : List ℕ) → Ends rest → function_at names room (argument_at names room) (fun_text names f ++ rest) ≡ Some (Function f, rest)
+  unfolding function_at called_at pure
+  function_reads f is rest ends =
+      bind_goes (fun_at names room) _ (fun_text names f ++ rest) f rest (fun_reads names has room f is rest (ends_word rest ends) (ends_less rest ends))
+      ∙ after_absent (codes "(") _ _ rest (ends_parenthesis rest ends)
+
+  arguments_each : (funs : List Fun) (args : List Term) → AllByRecursion (λ (f : Fun). IsRead Ends (argument_at names room) (fun_text names f) (Function f)) funs → AllByRecursion (λ (t : Term). IsRead Ends (argument_at names room) (term_text names t) (Value t)) args → AllByRecursion (λ (a : Argument). IsRead Ends (argument_at names room) (argument_text names a) a) (functions funs ++ values args)
+  arguments_each [] [] each_fun each = tt
+  arguments_each [] (t ∷ ts) each_fun each = (each.0, arguments_each [] ts each_fun each.1)
+  arguments_each (f ∷ fs) args each_fun each = (each_fun.0, arguments_each fs args each_fun.1 each)
+
+  call_reads : (f : Fun) (funs : List Fun) (args : List Term) → FunctionIn names room f → AllByRecursion (λ (g : Fun). IsRead Ends (argument_at names room) (fun_text names g) (Function g)) funs → AllByRecursion (λ (t : Term). IsRead Ends (argument_at names room) (term_text names t) (Value t)) args → (rest : List ℕ) →
+      function_at names room (argument_at names room) (fun_text names f ++ (codes "(" ++ (commas (map (fun_text names) funs ++ map (term_text names) args) ++ codes ")" ++ rest))) ≡ Some (Value (term.Call f funs args), rest)
+  unfolding function_at called_at arguments_at some_arguments_at pure
+  call_reads f funs args is each_fun each rest =
+      let list : List ℕ = commas (map (fun_text names) funs ++ map (term_text names) args) in
+      let all : Arguments = record { funs = funs; args = args } in
+      let inner : closed_at no_arguments (gather 44 (argument_at names room) argument_added no_arguments) (41 ∷ []) (list ++ 41 ∷ rest) ≡ Some (all, rest) =
+          ap (λ (zs : List (List ℕ)). closed_at no_arguments (gather 44 (argument_at names room) argument_added no_arguments) (41 ∷ []) (commas zs ++ 41 ∷ rest)) (sym (map_texts names funs args))
+          ∙ closed_complete (argument_at names room) argument_added arguments_list argument_gathers (argument_text names) no_arguments refl 41 Ends (λ z. refl) (λ z. refl) (λ z. refl) closes all rest (arguments_each funs args each_fun each) in
+      let back : list ++ codes ")" ++ rest ≡ list ++ 41 ∷ rest = append_assoc list (codes ")") rest in
+      bind_goes (fun_at names room) _ (fun_text names f ++ (codes "(" ++ (list ++ codes ")" ++ rest))) f (codes "(" ++ (list ++ codes ")" ++ rest)) (fun_reads names has room f is (codes "(" ++ (list ++ codes ")" ++ rest)) refl refl)
+      ∙ after_there (codes "(") _ _ (list ++ codes ")" ++ rest)
+      ∙ bind_goes (closed_at no_arguments (gather 44 (argument_at names room) argument_added no_arguments) (codes ")")) _ (list ++ codes ")" ++ rest) all rest (ap (closed_at no_arguments (gather 44 (argument_at names room) argument_added no_arguments) (codes ")")) back ∙ inner)
+    where
+      closes : (c : ℕ) → begins_item c ≡ true → (41 == c) ≡ false
+      closes c e = grind (arith, nat_tests)
+
+-- a text with a constructor's name at its front is a construction's
+upper_argument : (names : Names) (room : ℕ) (text rest : List ℕ) → IsWord is_ascii_uppercase text → argument_at names (suc room) (text ++ rest) ≡ construction_at names (ty_at names room) (argument_at names room) (text ++ rest)
+unfolding argument_at
+upper_argument names room text rest w =
+    after_absent (codes "$") _ _ (text ++ rest) (word_not 36 is_ascii_uppercase no_dollar text rest w)
+    ∙ choice_other (begins is_ascii_digit) _ _ (text ++ rest) (begins_first is_ascii_digit text rest w.first w.others false w.whole (upper_no_digit w.first w.begins_so))
+    ∙ choice_first (begins is_ascii_uppercase) _ _ (text ++ rest) (begins_first is_ascii_uppercase text rest w.first w.others true w.whole w.begins_so)
+
+-- a text with a function's head at its front is a function's or a call's
+head_argument : (names : Names) (room : ℕ) (text rest : List ℕ) → StartsHead text → argument_at names (suc room) (text ++ rest) ≡ function_at names room (argument_at names room) (text ++ rest)
+unfolding argument_at
+head_argument names room text rest s =
+    after_absent (codes "$") _ _ (text ++ rest) (rw (s.whole, head_no_dollar s.first s.begins_so) refl)
+    ∙ choice_other (begins is_ascii_digit) _ _ (text ++ rest) (begins_first is_ascii_digit text rest s.first s.others false s.whole (head_no_digit s.first s.begins_so))
+    ∙ choice_other (begins is_ascii_uppercase) _ _ (text ++ rest) (begins_first is_ascii_uppercase text rest s.first s.others false s.whole (head_no_upper s.first s.begins_so))
+
+construction_term : (names : Names) → HasNames names → (room d k : ℕ) (types : List Ty) (fields : List Term) → IsConstructorOf names d k → AreSpellableTypes names types → ((inner : ℕ) → terms_depth fields ≤ inner → AllByRecursion (λ (t : Term). IsRead Ends (argument_at names inner) (term_text names t) (Value t)) fields) → TermReads names room (term.Con d k types fields)
+construction_term names has zero d k types fields is spellable each low = absurd (too_deep names (term.Con d k types fields) (max (tys_depth types) (terms_depth fields)) (term_depth-Con d k types fields) low)
+construction_term names has (suc room) d k types fields is spellable each low =
+    let deep : 1 + max (tys_depth types) (terms_depth fields) ≤ suc room = subst (λ n. n ≤ suc room) (term_depth-Con d k types fields) low in
+    let one : tys_depth types ≤ room = omega arith in
+    let two : terms_depth fields ≤ room = omega arith in
+    let name : List ℕ = name_at (constructors_at names d) k in
+    let angles : List ℕ = in_angles (map (ty_text names) types) in
+    let parentheses : List ℕ = in_parentheses (map (term_text names) fields) in
+    let w : IsWord is_ascii_uppercase name = has.upper_con d k is in
+    record {
+      starts = rw (term_text-Con names d k types fields) (starts_more name (angles ++ parentheses) (upper_starts name w));
+      reads = λ rest ends.
+          rw (term_text-Con names d k types fields, append_assoc name (angles ++ parentheses) rest, append_assoc angles parentheses rest) (upper_argument names room name (angles ++ (parentheses ++ rest)) w
+          ∙ construction_reads names has room d k types fields is spellable one (each room two) rest ends);
+    }
+
+function_argument : (names : Names) → HasNames names → (room : ℕ) (f : Fun) → IsSpellableFunction names f → fun_depth f ≤ room → IsRead Ends (argument_at names room) (fun_text names f) (Function f)
+function_argument names has zero f is low = absurd (omega arith)
+function_argument names has (suc room) f is low =
+    let one : tys_depth f.types ≤ room = omega arith in
+    let row : FunctionIn names room f = record { spellable = is; depth = one } in
+    record {
+      starts = starts_of_head (fun_text names f) (fun_starts names has room f row);
+      reads = λ rest ends. head_argument names room (fun_text names f) rest (fun_starts names has room f row) ∙ function_reads names has room f row rest ends;
+    }
+
+function_arguments : (names : Names) → HasNames names → (room : ℕ) (fs : List Fun) → AllByRecursion (IsSpellableFunction names) fs → largest (map fun_depth fs) ≤ room → AllByRecursion (λ (f : Fun). IsRead Ends (argument_at names room) (fun_text names f) (Function f)) fs
+function_arguments names has room [] is low = tt
+function_arguments names has room (f ∷ fs) is low =
+    let one : fun_depth f ≤ room = omega arith in
+    let two : largest (map fun_depth fs) ≤ room = omega arith in
+    (function_argument names has room f is.0 one, function_arguments names has room fs is.1 two)
+
+call_term : (names : Names) → HasNames names → (room : ℕ) (f : Fun) (funs : List Fun) (args : List Term) → IsSpellableFunction names f → AllByRecursion (IsSpellableFunction names) funs → ((inner : ℕ) → terms_depth args ≤ inner → AllByRecursion (λ (t : Term). IsRead Ends (argument_at names inner) (term_text names t) (Value t)) args) → TermReads names room (term.Call f funs args)
+call_term names has zero f funs args is each_fun each low = absurd (too_deep names (term.Call f funs args) (max (tys_depth f.types) (max (largest (map fun_depth funs)) (terms_depth args))) (term_depth-Call f funs args) low)
+call_term names has (suc room) f funs args is each_fun each low =
+    let deep : 1 + max (tys_depth f.types) (max (largest (map fun_depth funs)) (terms_depth args)) ≤ suc room = subst (λ n. n ≤ suc room) (term_depth-Call f funs args) low in
+    let one : tys_depth f.types ≤ room = omega arith in
+    let two : largest (map fun_depth funs) ≤ room = omega arith in
+    let three : terms_depth args ≤ room = omega arith in
+    let row : FunctionIn names room f = record { spellable = is; depth = one } in
+    let front : List ℕ = fun_text names f in
+    let list : List ℕ = commas (map (fun_text names) funs ++ map (term_text names) args) in
+    record {
+      starts = rw (term_text-Call names f funs args) (starts_more front (codes "(" ++ (list ++ codes ")")) (starts_of_head front (fun_starts names has room f row)));
+      reads = λ rest ends.
+          rw (term_text-Call names f funs args, append_assoc front (codes "(" ++ (list ++ codes ")")) rest) (head_argument names room front (codes "(" ++ (list ++ codes ")" ++ rest)) (fun_starts names has room f row)
+          ∙ call_reads names has room f funs args row (function_arguments names has room funs each_fun two) (each room three) rest);
+    }
+
+mutual
+  term_layer : (names : Names) → HasNames names → (room : ℕ) (y : Term-F Term) → IsSpellableTerm names y → TermReads names room (roll-Term y)
+  term_layer names has room (Term-F.Free n) (free small) = subst (TermReads names room) (sym (term.rolls-Free n)) (free_reads names room n small)
+  term_layer names has room (Term-F.Lit w) (literal small) = subst (TermReads names room) (sym (term.rolls-Lit w)) (literal_reads names room w small)
+  term_layer names has room (Term-F.Con d k types fields) (construction is spellable each) = subst (TermReads names room) (sym (term.rolls-Con d k types fields)) (construction_term names has room d k types fields is spellable (λ inner low. terms_each names has inner fields each low))
+  term_layer names has room (Term-F.Call f funs args) (call is each_fun each) = subst (TermReads names room) (sym (term.rolls-Call f funs args)) (call_term names has room f funs args is each_fun (λ inner low. terms_each names has inner args each low))
+
+  terms_each : (names : Names) → HasNames names → (room : ℕ) (ts : List Term) → AreSpellableTerms names ts → terms_depth ts ≤ room → AllByRecursion (λ (t : Term). IsRead Ends (argument_at names room) (term_text names t) (Value t)) ts
+  terms_each names has room [] no_terms low = tt
+  terms_each names has room (t ∷ ts) (more_terms is each) low =
+      let one : term_depth t ≤ room = omega arith in
+      let others : terms_depth ts ≤ room = omega arith in
+      (subst (TermReads names room) (roll-out-Term t) (term_layer names has room (out-Term t) is) one, terms_each names has room ts each others)
+
+-- a term is read where its text stands
+pub term_complete : (names : Names) → HasNames names → (room : ℕ) (t : Term) → TermIn names room t → IsRead Ends (term_at names room) (term_text names t) t
+term_complete names has room t is = value_complete names room t (subst (TermReads names room) (roll-out-Term t) (term_layer names has room (out-Term t) is.spellable) is.depth)

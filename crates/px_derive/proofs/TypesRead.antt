@@ -94,9 +94,6 @@ upper_item c e = grind (arith, nat_tests)
 lower_item : (c : ℕ) → is_ascii_lowercase c ≡ true → begins_item c ≡ true
 lower_item c e = grind (arith, nat_tests)
 
-digit_item : (c : ℕ) → is_ascii_digit c ≡ true → begins_item c ≡ true
-digit_item c e = grind (arith, nat_tests)
-
 pub word_starts : (class : ℕ → Bool) → ((c : ℕ) → class c ≡ true → begins_item c ≡ true) → (text : List ℕ) → IsWord class text → Starts text
 word_starts class is_item text w = record { first = w.first; others = w.others; whole = w.whole; begins_so = is_item w.first w.begins_so }
 
@@ -128,11 +125,11 @@ pub record HasNames (names : Names) : Type 0 where
   pub lower : (n : ℕ) → IsNumberOf names.defs n → IsWord is_ascii_lowercase (name_at names.defs n)
   pub lower_lemma : (n : ℕ) → IsNumberOf names.lemmas n → IsWord is_ascii_lowercase (name_at names.lemmas n)
 
-all_at : {A : Type 0} (P : List ℕ → Type 0) (names : List (List ℕ)) (n : ℕ) → All P names → n < length names → P (name_at names n)
+all_at : (P : List ℕ → Type 0) (names : List (List ℕ)) (n : ℕ) → All P names → n < length names → P (name_at names n)
 all_at P names n all less = subst P (sym (name_is names n)) (All-get_or P names n [] less all)
 
 word_at_number : (class : ℕ → Bool) → class 0 ≡ false → (names : List (List ℕ)) (n : ℕ) → All (IsName class) names → n < length names → IsWord class (name_at names n)
-word_at_number class none_is names n all less = name_word class none_is (name_at names n) (all_at {A = ℕ} (IsName class) names n all less)
+word_at_number class none_is names n all less = name_word class none_is (name_at names n) (all_at (IsName class) names n all less)
 
 not_first : (first : List ℕ) (names : List (List ℕ)) (n : ℕ) → AreDistinct (first ∷ names) → n < length names → bytes_eq (name_at names n) first ≡ false
 not_first first names n (more absent distinct) less = by (bytes_eq (name_at names n) first) (bytes_eq-Decides (name_at names n) first).0
@@ -172,7 +169,7 @@ lawful_names names lawful =
     without_second : {x y : List ℕ} {xs : List (List ℕ)} → AreDistinct (x ∷ y ∷ xs) → AreDistinct (x ∷ xs)
     without_second {x} {y} {xs} (more absent (more later distinct)) = more (λ there. absent (Contains-append_right (y ∷ []) xs x there)) distinct
     lower_at : (words : List (List ℕ)) (n : ℕ) → All IsLowerName words → n < length words → IsWord is_ascii_lowercase (name_at words n)
-    lower_at words n all less = name_word is_ascii_lowercase refl (name_at words n) (all_at {A = ℕ} IsLowerName words n all less).0
+    lower_at words n all less = name_word is_ascii_lowercase refl (name_at words n) (all_at IsLowerName words n all less).0
 
 -- The type is one of a row, with so many levels.
 pub record TypeIn (names : Names) (room : ℕ) (t : Ty) : Type 0 where
@@ -278,7 +275,7 @@ too_deep : (names : Names) (t : Ty) (d : ℕ) → ty_depth t ≡ 1 + d → ty_de
 too_deep names t d e low = omega arith
 
 word_reads : (names : Names) (room : ℕ) → TypeReads names room ty.Word
-unfolding ty_at
+unfolding ty_at pure
 word_reads names zero low = absurd (too_deep names ty.Word 0 ty_depth-Word low)
 word_reads names (suc room) low = record {
   starts = rw (ty_text-Word names) (upper_starts (codes "Word") word_text);
@@ -289,7 +286,6 @@ word_reads names (suc room) low = record {
 }
   where
     pure_word : (rest : List ℕ) → choice (λ (z : List ℕ). bytes_eq (codes "Word") (codes "Word")) (pure ty.Word) (datatype_at names (ty_at names room) (codes "Word")) rest ≡ Some (ty.Word, rest)
-    unfolding pure
     pure_word rest = choice_first (λ (z : List ℕ). bytes_eq (codes "Word") (codes "Word")) (pure ty.Word) (datatype_at names (ty_at names room) (codes "Word")) rest refl
 
 variable_starts : (mark : ℕ) → begins_item mark ≡ true → (ds : List ℕ) → Starts (mark ∷ ds)
@@ -447,8 +443,8 @@ head_starts names has Wle is = lower_head (codes "wle") wle_word
 head_starts names has Weq is = lower_head (codes "weq") weq_word
 head_starts names has (FnVar n) is = record { first = 37; others = decimal n; whole = refl; begins_so = inr refl }
 
-pub starts_head_more : (text more : List ℕ) → StartsHead text → StartsHead (text ++ more)
-starts_head_more text more starts = record { first = starts.first; others = starts.others ++ more; whole = ap (λ z. z ++ more) starts.whole; begins_so = starts.begins_so }
+pub starts_head_more : (text behind : List ℕ) → StartsHead text → StartsHead (text ++ behind)
+starts_head_more text behind starts = record { first = starts.first; others = starts.others ++ behind; whole = ap (λ z. z ++ behind) starts.whole; begins_so = starts.begins_so }
 
 head_item : (c : ℕ) → (is_ascii_lowercase c ≡ true) ⊎ (c ≡ 37) → begins_item c ≡ true
 head_item c (inl is) = lower_item c is

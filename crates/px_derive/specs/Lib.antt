@@ -5,3 +5,4 @@ pub mod Runs
 pub mod Readers
 pub mod Reading
 pub mod Gives
+pub mod Laws

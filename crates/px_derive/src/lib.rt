@@ -8,6 +8,7 @@
 
 mod fields;
 mod line_end;
+mod laws;
 mod lines;
 mod lookups;
 mod numbers;
@@ -19,6 +20,7 @@ mod runs;
 mod terms;
 mod types;
 
+pub use laws::one_row;
 pub use line_end::LineEnd;
 pub use lines::{Piece, next_line};
 pub use printing::print_tree;
