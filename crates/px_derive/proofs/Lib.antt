@@ -6,3 +6,4 @@ pub mod NameFacts
 pub mod TextEquations
 pub mod TypesRead
 pub mod TermsRead
+pub mod FieldsRead

@@ -390,7 +390,7 @@ head_sound names text rest h e = elim (after_found (codes "%") _ _ text h rest e
       record { spellable = is.spellable; whole = r.whole ∙ ap (λ z. z ++ b.middle) is.whole ∙ ap (λ z. head_text names h ++ z) l.rest_is }
 ]
 
-no_percent : (c : ℕ) → is_ascii_lowercase c ≡ true → (37 == c) ≡ false
+pub no_percent : (c : ℕ) → is_ascii_lowercase c ≡ true → (37 == c) ≡ false
 no_percent c e = grind (arith, nat_tests)
 
 built_in : (names : Names) (name : List ℕ) (h : Head) (rest : List ℕ) → IsWord is_ascii_lowercase name → head_named names name ≡ Some h → begins is_name_part rest ≡ false → head_at names (name ++ rest) ≡ Some (h, rest)
@@ -400,17 +400,17 @@ built_in names name h rest w named ends =
     ∙ bind_goes word_at _ (name ++ rest) name rest (word_read is_ascii_lowercase name rest w ends)
     ∙ lift_some (head_named names name) h rest named
 
-wle_word : IsWord is_ascii_lowercase (codes "wle")
+pub wle_word : IsWord is_ascii_lowercase (codes "wle")
 wle_word = record { first = 119; others = codes "le"; whole = refl; begins_so = refl; parts = (refl, (refl, (refl, tt))) }
 
-weq_word : IsWord is_ascii_lowercase (codes "weq")
+pub weq_word : IsWord is_ascii_lowercase (codes "weq")
 weq_word = record { first = 119; others = codes "eq"; whole = refl; begins_so = refl; parts = (refl, (refl, (refl, tt))) }
 
-wle_named : (names : Names) → head_named names (codes "wle") ≡ Some Wle
+pub wle_named : (names : Names) → head_named names (codes "wle") ≡ Some Wle
 unfolding head_named
 wle_named names = refl
 
-weq_named : (names : Names) → head_named names (codes "weq") ≡ Some Weq
+pub weq_named : (names : Names) → head_named names (codes "weq") ≡ Some Weq
 unfolding head_named
 weq_named names = refl
 

@@ -1,3 +1,4 @@
+use Rattle.px_derive.proofs.FieldsRead.{lemma_reads}
 use Rattle.px_derive.proofs.ListFacts.{starts_not}
 use Rattle.px_derive.proofs.TypesRead.{fun_complete}
 use Rattle.px_derive.proofs.TermsRead.{term_complete}
