@@ -7,3 +7,4 @@ pub mod TextEquations
 pub mod TypesRead
 pub mod TermsRead
 pub mod FieldsRead
+pub mod RowsRead

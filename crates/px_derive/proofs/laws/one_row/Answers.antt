@@ -1,12 +1,15 @@
-use Rattle.px_derive.proofs.FieldsRead.{lemma_reads}
-use Rattle.px_derive.proofs.ListFacts.{starts_not}
-use Rattle.px_derive.proofs.TypesRead.{fun_complete}
-use Rattle.px_derive.proofs.TermsRead.{term_complete}
-use Rattle.px_derive.proofs.Found.{Equal}
-use Rattle.px_derive.proofs.NumberFacts.{number_sound}
-use Rattle.px_derive.proofs.NameFacts.{named_number}
-use Rattle.px_derive.proofs.TextEquations.{ty_text-Con}
+use Rattle.std.proofs.Common.{◌≡◌, Some, sym, ap, ◌∙◌}
+use Rattle.px_derive.specs.declared.row.Row.{Row}
+use Rattle.px_derive.specs.Reading.{line_row}
+use Rattle.px_derive.proofs.TypesRead.{lawful_names}
+use Rattle.px_derive.proofs.RowsRead.{line_complete}
 use Rattle.px_derive.proofs.laws.one_row.Goals as goal
 
+same_row : (r s : Row) → Some r ≡ Some s → r ≡ s
+same_row r s e = cc
+
+-- the line is read as the one row and as the other
 pub returns : goal.returns
-returns c = ?
+returns c = λ names r s lawful one other e.
+    let has = lawful_names names lawful in
+    same_row r s (sym (line_complete names has r one) ∙ ap (line_row names) e ∙ line_complete names has s other)
