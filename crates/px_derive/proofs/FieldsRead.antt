@@ -113,7 +113,7 @@ target_complete (target.Alternative n s) rest small = after_there (codes "a") _ 
 target_complete (target.Fact n s) rest small =
     after_absent (codes "a") _ _ (target_word (target.Fact n s) ++ rest) refl ∙ after_there (codes "f") _ _ ((decimal n ++ side_letter s) ++ rest) ∙ number_side (λ m r. target.Fact m r) n s rest small
 
-numbers_sound : Sound (λ (n : ℕ). n < 2 ^ 32) decimal small_at
+pub numbers_sound : Sound (λ (n : ℕ). n < 2 ^ 32) decimal small_at
 numbers_sound text rest n e = let r = number_sound (2 ^ 32) (lit≤ tt) text rest n e in record { is = r.small; whole = r.whole }
 
 number_reads : (n : ℕ) → n < 2 ^ 32 → IsRead EndsNumber small_at (decimal n) n

@@ -1,5 +1,5 @@
 -- What stands at the front of a text: a word, and the bytes of a class.
-use Rattle.std.proofs.Common.{◌≡◌, ◌≢◌, ℕ, zero, suc, ◌+◌, ◌≤◌, Bool, true, false, cond, List, [], ◌∷◌, ◌++◌, length, take, drop, Option, Some, None, refl, sym, ap, ◌∙◌, arith, ◌==◌}
+use Rattle.std.proofs.Common.{◌≡◌, ◌≢◌, ℕ, zero, suc, ◌+◌, ◌≤◌, Bool, true, false, cond, List, [], ◌∷◌, ◌++◌, length, take, drop, Option, Some, None, refl, sym, ap, ◌∙◌, subst, arith, ◌==◌}
 use Rattle.std.specs.Prelude.{MatchOption}
 use Rattle.std.specs.Borrow.{Bor}
 use Rattle.std.specs.List.{prefix_len, AllByRecursion}
@@ -72,3 +72,10 @@ run_found class text word rest e =
     let front : take (prefix_len class text) text ≡ word = ap (λ (z : List ℕ × List ℕ). z.0) q in
     let back : drop (prefix_len class text) text ≡ rest = ap (λ (z : List ℕ × List ℕ). z.1) q in
     rw (← front, ← back) (run_is class text)
+
+-- what `strip_prefix` finds, by its answer
+pub stripped_some : (word text : List ℕ) (r : Option (Bor (List ℕ))) (x : Bor (List ℕ)) → MatchOption r ((rest : List ℕ) → text ≢ word ++ rest) (λ y. text ≡ word ++ y.now) → r ≡ Some x → past word text ≡ Some x.now
+stripped_some word text r x h e = subst (λ (o : Option (Bor (List ℕ))). MatchOption o (past word text ≡ None) (λ y. past word text ≡ Some y.now)) e (stripped word text r h)
+
+pub stripped_none : (word text : List ℕ) (r : Option (Bor (List ℕ))) → MatchOption r ((rest : List ℕ) → text ≢ word ++ rest) (λ y. text ≡ word ++ y.now) → r ≡ None → past word text ≡ None
+stripped_none word text r h e = subst (λ (o : Option (Bor (List ℕ))). MatchOption o (past word text ≡ None) (λ y. past word text ≡ Some y.now)) e (stripped word text r h)

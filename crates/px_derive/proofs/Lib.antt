@@ -8,3 +8,5 @@ pub mod TypesRead
 pub mod TermsRead
 pub mod FieldsRead
 pub mod RowsRead
+pub mod DigitFacts
+pub mod Loops

@@ -1,5 +1,5 @@
 -- Names are found by their numbers, where no two of a kind are equal.
-use Rattle.std.proofs.Common.{◌≡◌, ◌≢◌, ℕ, zero, suc, ◌+◌, ◌<◌, ◌≤◌, ◌^◌, ◌⊎◌, Bool, true, false, not, cond, ◌&&◌, List, [], ◌∷◌, ◌++◌, length, get_or, slice_get, unwrap_or, Option, Some, None, refl, sym, ap, ◌∙◌, subst, inl, inr, arith, nat_lt}
+use Rattle.std.proofs.Common.{◌≡◌, ◌≢◌, ℕ, zero, suc, ◌+◌, ◌<◌, ◌≤◌, ◌^◌, ◌⊎◌, Bool, true, false, not, cond, ◌&&◌, List, [], ◌∷◌, ◌++◌, length, drop, get_or, slice_get, unwrap_or, Option, Some, None, refl, sym, ap, ◌∙◌, subst, inl, inr, arith, nat_lt}
 use Rattle.std.specs.Prelude.{Contains}
 use Rattle.std.specs.Option.{option_and_then}
 use Rattle.std.specs.List.{position, position_or_len, flat_map}
@@ -9,6 +9,7 @@ use Rattle.std.proofs.lemmas.Bool.Decides.{Decides-ltb}
 use Rattle.std.proofs.lemmas.List.Quantifiers.{position-Some}
 use Rattle.std.proofs.lemmas.List.Elements.{Contains-get_or, Contains-append_left, Contains-append_right}
 use Rattle.std.proofs.lemmas.Option.{unwrap_or-slice_get}
+use Rattle.std.proofs.lemmas.List.{drop_more, drop_all}
 use Rattle.px_base.specs.Distinct.{AreDistinct, none, more}
 use Rattle.px_base.specs.declared.names.Names.{Names}
 use Rattle.px_derive.specs.Spelling.{name_at, constructors_at}
@@ -196,3 +197,23 @@ constructor_found names word c e =
       };
       name = f.name ∙ ap (λ ns. get_or ns c.con []) own ∙ sym (name_is (constructors_at names c.datatype) c.con);
     }
+
+-- a look-up in the lists from one on, one step on
+pub found_here : (lists : List (List (List ℕ))) (word : List ℕ) (i k : ℕ) (own : List (List ℕ)) → i < length lists → own ≡ get_or lists i own → constructor_from i (drop i lists) word ≡ constructor_from 0 lists word → place_of own word ≡ Some k → constructor_named lists word ≡ small_constructor (constructor_of i k)
+unfolding constructor_named
+found_here lists word i k own within own_is so_far place_is =
+    let more : drop i lists ≡ own ∷ drop (i + 1) lists = drop_more lists i own within ∙ ap (λ z. z ∷ drop (i + 1) lists) (sym own_is) in
+    let here_is : constructor_from 0 lists word ≡ Some (constructor_of i k) = sym so_far ∙ rw (more, place_is) refl in
+    rw here_is refl
+
+pub not_found_here : (lists : List (List (List ℕ))) (word : List ℕ) (i : ℕ) (own : List (List ℕ)) → i < length lists → own ≡ get_or lists i own → constructor_from i (drop i lists) word ≡ constructor_from 0 lists word → place_of own word ≡ None → constructor_from (i + 1) (drop (i + 1) lists) word ≡ constructor_from 0 lists word
+not_found_here lists word i own within own_is so_far no_place_is =
+    let more : drop i lists ≡ own ∷ drop (i + 1) lists = drop_more lists i own within ∙ ap (λ z. z ∷ drop (i + 1) lists) (sym own_is) in
+    let step : constructor_from i (drop i lists) word ≡ constructor_from (i + 1) (drop (i + 1) lists) word = rw (more, no_place_is) refl in
+    sym step ∙ so_far
+
+pub found_nowhere : (lists : List (List (List ℕ))) (word : List ℕ) (i : ℕ) → length lists ≤ i → constructor_from i (drop i lists) word ≡ constructor_from 0 lists word → constructor_named lists word ≡ None
+unfolding constructor_named
+found_nowhere lists word i past so_far =
+    let none_left : constructor_from 0 lists word ≡ None = sym so_far ∙ rw (drop_all i lists past) refl in
+    rw none_left refl

@@ -1,7 +1,12 @@
 -- Numbers are read as they are written.
-use Rattle.std.proofs.Common.{◌≡◌, ℕ, zero, suc, ◌+◌, ◌<◌, ◌≤◌, ◌^◌, ◌⊎◌, Bool, true, false, cond, ◌&&◌, List, [], ◌∷◌, ◌++◌, length, get_or, Option, Some, None, refl, sym, ap, ◌∙◌, subst, inl, inr, arith, rules, ◌==◌, nat_lt}
+use Rattle.std.proofs.Common.{◌≡◌, ℕ, zero, suc, ◌+◌, ◌<◌, ◌≤◌, ◌^◌, ◌⊎◌, Bool, true, false, cond, ◌&&◌, List, [], ◌∷◌, ◌++◌, length, take, drop, get_or, Option, Some, None, refl, sym, ap, ◌∙◌, subst, inl, inr, arith, rules, ◌==◌, nat_lt}
 use Rattle.std.specs.Option.{option_and_then}
-use Rattle.std.specs.List.{AllByRecursion}
+use Rattle.std.specs.Prelude.{MatchOption, All, IsTrue}
+use Rattle.std.proofs.lemmas.List.Elements.{All-from_recursion}
+use Rattle.px_derive.specs.declared.line_end.LineEnd.{LineEnd}
+use Rattle.px_derive.specs.declared.line_end.LineEnd.TheVariants.{Form, NoMemory}
+use Rattle.px_derive.specs.Gives.{Fails}
+use Rattle.std.specs.List.{AllByRecursion, prefix_len}
 use Rattle.std.specs.Fmt.{decimal}
 use Rattle.std.specs.Char.{is_ascii_digit}
 use Rattle.std.specs.Int.{IsInRange}
@@ -11,8 +16,8 @@ use Rattle.std.proofs.lemmas.Fmt.{decimal-digits_value, digits_value-decimal, di
 use Rattle.std.proofs.lemmas.Bool.Decides.{Decides-eqb, Decides-ltb, nat_tests}
 use Rattle.px_derive.specs.Readers.{bind, lift, run_of, begins, is_numeral, number_of, number_at}
 use Rattle.px_derive.specs.Reading.{small}
-use Rattle.px_derive.proofs.Fronts.{IsRun, run_found, run_whole}
-use Rattle.px_derive.proofs.Found.{Then, bind_found, bind_goes, Lifted, lift_found, lift_some, decided}
+use Rattle.px_derive.proofs.Fronts.{IsRun, run_is, run_found, run_whole}
+use Rattle.px_derive.proofs.Found.{Then, bind_found, bind_goes, Lifted, lift_found, lift_some, decided, read}
 
 -- each byte is a digit
 abbrev pub AreDigits : List ℕ → Type 0
@@ -124,3 +129,60 @@ small_step false v b e = refl
 pub small_number : (ds : List ℕ) → number_of (2 ^ 32) ds ≡ option_and_then small (number_of (2 ^ 64) ds)
 unfolding number_of
 small_number ds = small_step (is_numeral ds) (digits_value 10 ds) (nat_lt (digits_value 10 ds) (2 ^ 64)) refl
+
+-- what digits add up to, where it is not too large
+pub valued : (ds : List ℕ) (r : Option ℕ) → is_numeral ds ≡ true → MatchOption r (2 ^ 64 ≤ digits_value 10 ds) (λ n. (n ≡ digits_value 10 ds) × (n < 2 ^ 64)) → r ≡ number_of (2 ^ 64) ds
+unfolding number_of
+valued ds (Some n) numeral (same, small) =
+    let less : digits_value 10 ds < 2 ^ 64 = subst (λ k. k < 2 ^ 64) same small in
+    rw (numeral, (Decides-ltb (digits_value 10 ds) (2 ^ 64)).1 less) (ap (λ k. Some k) same)
+valued ds None numeral large =
+    let not_less : nat_lt (digits_value 10 ds) (2 ^ 64) ≡ false = grind (arith, nat_tests) in
+    rw (numeral, not_less) refl
+
+pub no_number : (ds : List ℕ) → is_numeral ds ≡ false → number_of (2 ^ 64) ds ≡ None
+unfolding number_of
+no_number ds e = rw e refl
+
+-- the bytes that were split off are those of the class
+pub run_split : (class : ℕ → Bool) (text front back : List ℕ) (n : ℕ) → n ≡ prefix_len class text → front ≡ take n text → back ≡ drop n text → run_of class text ≡ Some (front, back)
+unfolding run_of
+run_split class text front back n e f g = rw (f, g, e) refl
+
+pub digits_front : (text front : List ℕ) (n : ℕ) → n ≡ prefix_len is_ascii_digit text → front ≡ take n text → All (λ (d : ℕ). IsTrue (is_ascii_digit d)) front
+digits_front text front n e f =
+    let is : IsRun is_ascii_digit text (take (prefix_len is_ascii_digit text) text) (drop (prefix_len is_ascii_digit text) text) = run_is is_ascii_digit text in
+    All-from_recursion (λ (d : ℕ). IsTrue (is_ascii_digit d)) front (rw (f, e) is.each)
+
+pub number_some : (limit : ℕ) (text front back : List ℕ) (n : ℕ) → run_of is_ascii_digit text ≡ Some (front, back) → number_of limit front ≡ Some n → number_at limit text ≡ Some (n, back)
+unfolding number_at
+number_some limit text front back n e f = bind_goes (run_of is_ascii_digit) (λ (digits : List ℕ). lift (number_of limit digits)) text front back e ∙ lift_some (number_of limit front) n back f
+
+pub number_none : (limit : ℕ) (text front back : List ℕ) → run_of is_ascii_digit text ≡ Some (front, back) → number_of limit front ≡ None → number_at limit text ≡ None
+unfolding number_at lift
+number_none limit text front back e f = bind_goes (run_of is_ascii_digit) (λ (digits : List ℕ). lift (number_of limit digits)) text front back e ∙ rw f refl
+
+-- a number that is small, and what follows it
+abbrev small_read : ℕ × List ℕ → Option (ℕ × List ℕ)
+small_read (n, rest) = option_and_then (λ (m : ℕ). read m rest) (small n)
+
+narrowed : (o : Option ℕ) (rest : List ℕ) → option_and_then (λ (m : ℕ). read m rest) (option_and_then small o) ≡ option_and_then small_read (option_and_then (λ (n : ℕ). read n rest) o)
+narrowed (Some n) rest = refl
+narrowed None rest = refl
+
+number_narrow : (text : List ℕ) → number_at (2 ^ 32) text ≡ option_and_then small_read (number_at (2 ^ 64) text)
+unfolding number_at bind run_of lift
+number_narrow text =
+    let ds : List ℕ = take (prefix_len is_ascii_digit text) text in
+    let rest : List ℕ = drop (prefix_len is_ascii_digit text) text in
+    ap (option_and_then (λ (m : ℕ). read m rest)) (small_number ds) ∙ narrowed (number_of (2 ^ 64) ds) rest
+
+pub narrow_some : (text rest : List ℕ) (n m : ℕ) → number_at (2 ^ 64) text ≡ Some (n, rest) → small n ≡ Some m → number_at (2 ^ 32) text ≡ Some (m, rest)
+narrow_some text rest n m e f = number_narrow text ∙ rw (e, f) refl
+
+pub narrow_none : (text rest : List ℕ) (n : ℕ) → number_at (2 ^ 64) text ≡ Some (n, rest) → small n ≡ None → number_at (2 ^ 32) text ≡ None
+narrow_none text rest n e f = number_narrow text ∙ rw (e, f) refl
+
+pub narrow_fails : (end : LineEnd) (text : List ℕ) → Fails end (number_at (2 ^ 64) text) → Fails end (number_at (2 ^ 32) text)
+narrow_fails Form text e = number_narrow text ∙ rw e refl
+narrow_fails NoMemory text e = tt
