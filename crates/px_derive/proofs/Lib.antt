@@ -10,3 +10,4 @@ pub mod FieldsRead
 pub mod RowsRead
 pub mod DigitFacts
 pub mod Loops
+pub mod TypeSteps

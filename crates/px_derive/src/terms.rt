@@ -102,6 +102,7 @@ fn read_argument<'t>(
 
 /// The constructor on fields at the front, in whose parts so many levels may nest, and the bytes after it.
 #[cycle(terms)]
+#[tactic(auto, unfolding(crate::specs::Reading::construction_at, crate::specs::Readers::bind, crate::specs::Readers::lift, crate::specs::Readers::pure))]
 fn read_construction<'t>(
     alloc: Global,
     names: &Names,
@@ -127,6 +128,7 @@ fn read_construction<'t>(
 
 /// The fields at the front, none where there is no `(`, and the bytes after them.
 #[cycle(terms)]
+#[tactic(auto, unfolding(crate::specs::Reading::fields_at, crate::specs::Reading::terms_at, crate::specs::Readers::opened_at, crate::specs::Readers::after, crate::specs::Readers::bind, crate::specs::Readers::pure))]
 fn read_fields<'t>(
     alloc: Global,
     names: &Names,
@@ -146,6 +148,7 @@ fn read_fields<'t>(
 /// The function at the front, or the call of it where a `(` follows, in whose parts so many levels may nest; and the bytes
 /// after it.
 #[cycle(terms)]
+#[tactic(auto, unfolding(crate::specs::Reading::function_at, crate::specs::Reading::called_at, crate::specs::Readers::after, crate::specs::Readers::bind, crate::specs::Readers::pure))]
 fn read_called<'t>(
     alloc: Global,
     names: &Names,
@@ -165,6 +168,7 @@ fn read_called<'t>(
 
 /// The arguments of a call up to its `)`, and the bytes after that.
 #[cycle(terms)]
+#[tactic(auto, unfolding(crate::specs::Reading::arguments_at, crate::specs::Readers::closed_at, crate::specs::Readers::after, crate::specs::Readers::bind, crate::specs::Readers::pure))]
 fn read_arguments<'t>(
     alloc: Global,
     names: &Names,
@@ -203,6 +207,7 @@ fn read_some_arguments<'t>(
 
 /// The term at the front, in which so many levels may nest, and the bytes after it.
 #[cycle(terms)]
+#[tactic(auto, unfolding(crate::specs::Reading::term_at, crate::specs::Reading::value_at, crate::specs::Readers::bind, crate::specs::Readers::lift))]
 pub(crate) fn read_term<'t>(
     alloc: Global,
     names: &Names,

@@ -36,6 +36,7 @@ pub(crate) fn read_type<'t>(
 
 /// The datatype of this name with the arguments at the front, in which so many levels may nest, and the bytes after them.
 #[cycle(types)]
+#[tactic(auto, unfolding(crate::specs::Reading::datatype_at, crate::specs::Readers::bind, crate::specs::Readers::lift, crate::specs::Readers::pure))]
 fn read_datatype<'t>(
     alloc: Global,
     names: &Names,
@@ -54,6 +55,7 @@ fn read_datatype<'t>(
 
 /// The type arguments at the front, none where there is no `<`, and the bytes after them.
 #[cycle(types)]
+#[tactic(auto, unfolding(crate::specs::Reading::angles_at, crate::specs::Reading::tys_at, crate::specs::Readers::opened_at, crate::specs::Readers::after, crate::specs::Readers::bind, crate::specs::Readers::pure))]
 pub(crate) fn read_type_arguments<'t>(
     alloc: Global,
     names: &Names,
