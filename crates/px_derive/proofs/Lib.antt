@@ -11,3 +11,4 @@ pub mod RowsRead
 pub mod DigitFacts
 pub mod Loops
 pub mod TypeSteps
+pub mod TermSteps

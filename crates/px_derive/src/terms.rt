@@ -18,6 +18,21 @@ pub(crate) enum Argument {
     Value(Term),
 }
 
+impl Argument {
+    ghost use Rattle.px_derive.specs.Gives.{Answers};
+    ghost use Rattle.px_derive.specs.Reading.{term_of};
+
+    /// The term. A function is none.
+    fn into_term(self) -> Result<Term, LineEnd>
+        ensures { Answers result (term_of self) }
+    {
+        match self {
+            Argument::Value(term) => Ok(term),
+            Argument::Function(_) => Err(LineEnd::Form),
+        }
+    }
+}
+
 /// All that stands there: first the functions, and then the terms.
 #[derive(Drop)]
 pub(crate) struct Arguments {
@@ -216,10 +231,9 @@ pub(crate) fn read_term<'t>(
 ) -> Result<(Term, Rest<'t>), LineEnd>
     ensures { Gives result (term_at names.now room (left text.entry)) }
 {
-    match read_argument(alloc, names, room, text)? {
-        (Argument::Value(term), rest) => Ok((term, rest)),
-        (Argument::Function(_), _) => Err(LineEnd::Form),
-    }
+    let (argument, rest) = read_argument(alloc, names, room, text)?;
+    let term = argument.into_term()?;
+    Ok((term, rest))
 }
 
 /// The terms at the front, with commas between, and the bytes after them.
