@@ -12,3 +12,4 @@ pub mod DigitFacts
 pub mod Loops
 pub mod TypeSteps
 pub mod TermSteps
+pub mod LineAnswers

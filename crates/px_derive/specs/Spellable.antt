@@ -1,6 +1,6 @@
 -- What a row may hold to have a line: numbers below 2^32 and literals below 2^64, names in range, terms without matches, and at
 -- most ROW_DEPTH levels, counted as depth counts.
-use Rattle.std.specs.Prelude.{◌≡◌, ℕ, ◌<◌, ◌≤◌, ◌^◌, List, [], ◌∷◌, length}
+use Rattle.std.specs.Prelude.{◌≡◌, ◌≢◌, ℕ, ◌<◌, ◌≤◌, ◌^◌, List, [], ◌∷◌, length}
 use Rattle.std.specs.List.{AllByRecursion}
 use Rattle.px_base.specs.declared.limits.TheConstants.{ROW_DEPTH}
 use Rattle.px_base.specs.declared.names.Names.{Names}
@@ -19,7 +19,7 @@ use Rattle.px_terms.specs.Terms.{term_depth}
 use Rattle.px_terms.specs.Readable.{AreSmall, IsReadableTarget, IsReadableKind}
 use Rattle.px_derive.specs.declared.row.Row.{Row}
 use Rattle.px_derive.specs.declared.row.Row.TheVariants as row
-use Rattle.px_derive.specs.Spelling.{constructors_at}
+use Rattle.px_derive.specs.Spelling.{constructors_at, line_of}
 
 -- one of these has this number
 pub record IsNumberOf {A : Type 0} (names : List A) (n : ℕ) : Type 0 where
@@ -113,3 +113,7 @@ IsSpellable names (row.CaseVar v) = v < 2 ^ 32
 IsSpellable names (row.SplitTerm t) = IsRowTerm names t
 IsSpellable names (row.Clash n) = n < 2 ^ 32
 IsSpellable names (row.Inject n) = n < 2 ^ 32
+
+-- the line is no row's and no header's
+abbrev pub IsNoLine : Names → List ℕ → Type 0
+IsNoLine names line = (row : Row) → IsSpellable names row → line ≢ line_of names row

@@ -1,9 +1,9 @@
 //! The row of a line.
-ghost use Rattle.std.specs.Prelude.{◌≡◌, IfOk, MatchResult};
+ghost use Rattle.std.specs.Prelude.{◌≡◌, IfOk, MatchResult, Err};
 ghost use Rattle.px_base.specs.Lawful.{IsLawful};
 ghost use Rattle.px_derive.specs.Gives.{left, Gives, Answers};
 ghost use Rattle.px_derive.specs.Reading.{brackets_at, tys_at, funs_at, terms_at, sigma_at, step_at, header_at, note_at, hypothesis_at, split_at, wide_row_at, row_at, line_row};
-ghost use Rattle.px_derive.specs.Spellable.{IsSpellable};
+ghost use Rattle.px_derive.specs.Spellable.{IsSpellable, IsNoLine};
 ghost use Rattle.px_derive.specs.Spelling.{line_of};
 ghost use Rattle.px_derive.specs.declared.row.Row.{Row as TheRow};
 ghost use Rattle.px_derive.specs.declared.line_end.LineEnd.TheVariants.{NoMemory};
@@ -249,8 +249,9 @@ pub fn read_line(alloc: Global, names: &Names, line: &[u8]) -> Result<Row, LineE
     ensures spellable { IfOk result (λ row. IsSpellable names.now row) }
     ensures spelled { IfOk result (λ row. line.now ≡ line_of names.now row) }
 
-    // The line of a row is read as that row, unless memory runs out; so a line is `Form` only where it is no row's.
+    // The line of a row is read as that row, unless memory runs out, and a line is `Form` only where it is no row's.
     ensures read { (row : TheRow) → IsSpellable names.now row → line.now ≡ line_of names.now row → MatchResult result (λ read. read ≡ row) (λ end. end ≡ NoMemory) }
+    ensures form { result ≡ Err LineEnd.Form → IsNoLine names.now line.now }
 {
     read_whole(alloc, names, line)
 }
