@@ -13,3 +13,4 @@ pub mod Loops
 pub mod TypeSteps
 pub mod TermSteps
 pub mod LineAnswers
+pub mod Printed

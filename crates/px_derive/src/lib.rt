@@ -18,11 +18,12 @@ mod rest;
 mod row;
 mod runs;
 mod terms;
+mod trees;
 mod types;
 
 pub use laws::one_row;
 pub use line_end::LineEnd;
 pub use lines::{Piece, next_line};
-pub use printing::print_tree;
 pub use reading::read_line;
 pub use row::{Row, Tree};
+pub use trees::print_tree;
