@@ -66,8 +66,8 @@ pub number_of_sound : (limit n : ℕ) (ds : List ℕ) → limit ≤ 2 ^ 64 → A
 unfolding number_of
 number_of_sound limit n ds most digits e =
     number_step limit n (digits_value 10 ds) ds (is_numeral ds) (nat_lt (digits_value 10 ds) limit)
-      (λ numeral less. decimal-digits_value own ds digits (numeral_some ds numeral) (numeral_zero ds numeral) less)
-      (Decides-ltb (digits_value 10 ds) limit).0 most e
+    (λ numeral less. decimal-digits_value own ds digits (numeral_some ds numeral) (numeral_zero ds numeral) less)
+    (Decides-ltb (digits_value 10 ds) limit).0 most e
 
 several : (c d : ℕ) (ds : List ℕ) (b : Bool) → (b ≡ true → c ≡ 48) → 48 < c → cond b false true ≡ true
 several c d ds true is_zero more = let q : c ≡ 48 = is_zero refl in absurd (omega arith)

@@ -149,7 +149,7 @@ sigma_complete names has sigma rest is =
     let late : List ℕ = codes " " ++ (three ++ rest) in
     let mid : List ℕ = codes " " ++ (two ++ late) in
     let whole : (one ++ (codes " " ++ (two ++ (codes " " ++ three)))) ++ rest ≡ one ++ mid =
-        append_assoc one (codes " " ++ (two ++ (codes " " ++ three))) rest ∙ ap (λ z. one ++ (codes " " ++ z)) (append_assoc two (codes " " ++ three) rest) in
+    append_assoc one (codes " " ++ (two ++ (codes " " ++ three))) rest ∙ ap (λ z. one ++ (codes " " ++ z)) (append_assoc two (codes " " ++ three) rest) in
     ap (sigma_at names) whole
     ∙ bind_goes (brackets_at (tys_at names ROW_DEPTH)) _ (one ++ mid) sigma.types mid (types_in_brackets names has sigma.types mid is.types)
     ∙ bind_goes (skip (codes " ")) _ mid tt (two ++ late) (skip_whole (codes " ") (two ++ late))
@@ -238,9 +238,10 @@ note_of : (names : Names) (ref : Ref) (sigma : Sigma) (rest : List ℕ) → IsSp
 note_of names (reference.Property head prop) sigma rest spellable is =
     let front : List ℕ = head_text names head in
     let word : List ℕ = prop_word prop in
-    let words : List ℕ = sigma_words names sigma in
-    ((spellable, is),
-      ap (λ z. codes "note " ++ z) (append_assoc front (codes "." ++ word) (codes " " ++ (words ++ rest)) ∙ ap (λ z. front ++ (codes "." ++ z)) (sym (append_assoc word (codes " " ++ words) rest)) ∙ sym (append_assoc front (codes "." ++ (word ++ (codes " " ++ words))) rest)))
+    let words : List ℕ = sigma_words names sigma in (
+      (spellable, is),
+      ap (λ z. codes "note " ++ z) (append_assoc front (codes "." ++ word) (codes " " ++ (words ++ rest)) ∙ ap (λ z. front ++ (codes "." ++ z)) (sym (append_assoc word (codes " " ++ words) rest)) ∙ sym (append_assoc front (codes "." ++ (word ++ (codes " " ++ words))) rest)),
+    )
 note_of names (reference.Lemma n) sigma rest spellable is =
     ((spellable, is), ap (λ z. codes "note " ++ z) (sym (append_assoc (name_at names.lemmas n) (codes " " ++ sigma_words names sigma) rest)))
 note_of names reference.Hypothesis sigma rest spellable is = absurd spellable

@@ -232,15 +232,17 @@ module _ (names : Names) (room : ℕ) (sound : Sound (ArgumentIn names room) (ar
         let front : List ℕ = fun_text names f in
         let list : List ℕ = commas (map (fun_text names) b.value.funs ++ map (term_text names) b.value.args) in
         let inner : there.behind ≡ (list ++ codes ")") ++ rest =
-            c.whole ∙ ap (λ (zs : List (List ℕ)). commas zs ++ 41 ∷ b.middle) (map_texts names b.value.funs b.value.args) ∙ ap (λ z. list ++ 41 ∷ z) q.rest ∙ sym (append_assoc list (codes ")") rest) in
-        (subst (ArgumentIn names (suc room)) q.value (call_term_in names room f b.value.funs b.value.args is (call_in names room b.value.funs b.value.args c.each)),
+        c.whole ∙ ap (λ (zs : List (List ℕ)). commas zs ++ 41 ∷ b.middle) (map_texts names b.value.funs b.value.args) ∙ ap (λ z. list ++ 41 ∷ z) q.rest ∙ sym (append_assoc list (codes ")") rest) in (
+          subst (ArgumentIn names (suc room)) q.value (call_term_in names room f b.value.funs b.value.args is (call_in names room b.value.funs b.value.args c.each)),
           ap (λ z. front ++ z) (there.whole ∙ ap (λ z. codes "(" ++ z) inner) ∙ sym (append_assoc front (codes "(" ++ (list ++ codes ")")) rest)
-          ∙ ap (λ z. z ++ rest) (sym (term_text-Call names f b.value.funs b.value.args) ∙ ap (argument_text names) q.value))
+              ∙ ap (λ z. z ++ rest) (sym (term_text-Call names f b.value.funs b.value.args) ∙ ap (argument_text names) q.value),
+        )
     | inr g ↦
         let q : Equal (Function f) a text rest = pure_found (Function f) a text rest g in
-        let low : fun_depth f ≤ suc room = let d : tys_depth f.types ≤ room = is.depth in omega arith in
-        (subst (ArgumentIn names (suc room)) q.value (is.spellable, low),
-          ap (λ z. fun_text names f ++ z) q.rest ∙ ap (λ (b : Argument). argument_text names b ++ rest) q.value)
+        let low : fun_depth f ≤ suc room = let d : tys_depth f.types ≤ room = is.depth in omega arith in (
+          subst (ArgumentIn names (suc room)) q.value (is.spellable, low),
+          ap (λ z. fun_text names f ++ z) q.rest ∙ ap (λ (b : Argument). argument_text names b ++ rest) q.value,
+        )
   ]
 
   function_sound : Sound (ArgumentIn names (suc room)) (argument_text names) (function_at names room (argument_at names room))
@@ -262,6 +264,7 @@ argument_sound names (suc room) text rest a e = by (after_found (codes "$") _ _ 
       | inl is ↦ construction_sound names room sound text rest a is.found
       | inr is ↦ function_sound names room sound text rest a is.found
     ]
+
     literals : bind literal_at (λ (w : ℕ). pure (Value (term.Lit w))) text ≡ Some (a, rest) → Read (ArgumentIn names (suc room)) (argument_text names) text a rest
     literals f =
         let b = bind_found literal_at _ text a rest f in
@@ -271,6 +274,7 @@ argument_sound names (suc room) text rest a e = by (after_found (codes "$") _ _ 
           is = subst (ArgumentIn names (suc room)) q.value (literal_in names room b.value r.small);
           whole = r.whole ∙ ap (λ z. decimal b.value ++ z) q.rest ∙ ap (λ z. z ++ rest) (sym (term_text-Lit names b.value) ∙ ap (argument_text names) q.value);
         }
+
     by : There (codes "$") (bind small_at (λ (n : ℕ). pure (Value (term.Free n)))) text a rest ⊎ (choice (begins is_ascii_digit) (bind literal_at (λ (w : ℕ). pure (Value (term.Lit w)))) (choice (begins is_ascii_uppercase) (construction_at names (ty_at names room) (argument_at names room)) (function_at names room (argument_at names room))) text ≡ Some (a, rest)) → Sound (ArgumentIn names room) (argument_text names) (argument_at names room) → Read (ArgumentIn names (suc room)) (argument_text names) text a rest
     by (inl there) sound =
         let b = bind_found small_at _ there.behind a rest there.found in
@@ -410,8 +414,8 @@ module _ (names : Names) (has : HasNames names) (room : ℕ) where
       let list : List ℕ = commas (map (fun_text names) funs ++ map (term_text names) args) in
       let all : Arguments = record { funs = funs; args = args } in
       let inner : closed_at no_arguments (gather 44 (argument_at names room) argument_added no_arguments) (41 ∷ []) (list ++ 41 ∷ rest) ≡ Some (all, rest) =
-          ap (λ (zs : List (List ℕ)). closed_at no_arguments (gather 44 (argument_at names room) argument_added no_arguments) (41 ∷ []) (commas zs ++ 41 ∷ rest)) (sym (map_texts names funs args))
-          ∙ closed_complete (argument_at names room) argument_added arguments_list argument_gathers (argument_text names) no_arguments refl 41 Ends (λ z. refl) (λ z. refl) (λ z. refl) closes all rest (arguments_each funs args each_fun each) in
+      ap (λ (zs : List (List ℕ)). closed_at no_arguments (gather 44 (argument_at names room) argument_added no_arguments) (41 ∷ []) (commas zs ++ 41 ∷ rest)) (sym (map_texts names funs args))
+      ∙ closed_complete (argument_at names room) argument_added arguments_list argument_gathers (argument_text names) no_arguments refl 41 Ends (λ z. refl) (λ z. refl) (λ z. refl) closes all rest (arguments_each funs args each_fun each) in
       let back : list ++ codes ")" ++ rest ≡ list ++ 41 ∷ rest = append_assoc list (codes ")") rest in
       bind_goes (fun_at names room) _ (fun_text names f ++ (codes "(" ++ (list ++ codes ")" ++ rest))) f (codes "(" ++ (list ++ codes ")" ++ rest)) (fun_reads names has room f is (codes "(" ++ (list ++ codes ")" ++ rest)) refl refl)
       ∙ after_there (codes "(") _ _ (list ++ codes ")" ++ rest)

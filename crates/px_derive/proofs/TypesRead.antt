@@ -166,8 +166,10 @@ lawful_names names lawful =
   where
     own_all : (names : Names) (d : ℕ) → All (All IsUpperName) names.cons → d < length names.cons → All IsUpperName (constructors_at names d)
     own_all names d all less = subst (All IsUpperName) (sym (unwrap_or-slice_get names.cons d [])) (All-get_or (All IsUpperName) names.cons d [] less all)
+
     without_second : {x y : List ℕ} {xs : List (List ℕ)} → AreDistinct (x ∷ y ∷ xs) → AreDistinct (x ∷ xs)
     without_second {x} {y} {xs} (more absent (more later distinct)) = more (λ there. absent (Contains-append_right (y ∷ []) xs x there)) distinct
+
     lower_at : (words : List (List ℕ)) (n : ℕ) → All IsLowerName words → n < length words → IsWord is_ascii_lowercase (name_at words n)
     lower_at words n all less = name_word is_ascii_lowercase refl (name_at words n) (all_at IsLowerName words n all less).0
 
@@ -211,9 +213,10 @@ datatype_sound names room sound name text rest t e =
     let is : IsNamed names.datatypes name b.value = number_found names.datatypes name b.value l.some in
     let o = angles_sound names room sound b.middle c.middle c.value c.first in
     let whole : name ++ text ≡ (name_at names.datatypes b.value ++ in_angles (map (ty_text names) c.value)) ++ rest =
-        ap (λ z. name ++ z) (l.rest_is ∙ o.whole ∙ ap (λ z. in_angles (map (ty_text names) c.value) ++ z) q.rest) ∙ ap (λ z. z ++ (in_angles (map (ty_text names) c.value) ++ rest)) is.name ∙ sym (append_assoc (name_at names.datatypes b.value) (in_angles (map (ty_text names) c.value)) rest) in
-    (subst (TypeIn names (suc room)) q.value (datatype_in names room b.value c.value is.number o.each),
-      whole ∙ ap (λ z. z ++ rest) (sym (ty_text-Con names b.value c.value) ∙ ap (ty_text names) q.value))
+    ap (λ z. name ++ z) (l.rest_is ∙ o.whole ∙ ap (λ z. in_angles (map (ty_text names) c.value) ++ z) q.rest) ∙ ap (λ z. z ++ (in_angles (map (ty_text names) c.value) ++ rest)) is.name ∙ sym (append_assoc (name_at names.datatypes b.value) (in_angles (map (ty_text names) c.value)) rest) in (
+      subst (TypeIn names (suc room)) q.value (datatype_in names room b.value c.value is.number o.each),
+      whole ∙ ap (λ z. z ++ rest) (sym (ty_text-Con names b.value c.value) ∙ ap (ty_text names) q.value),
+    )
 
 -- a type that was read is one of a row, and stood there
 pub ty_sound : (names : Names) (room : ℕ) → Sound (TypeIn names room) (ty_text names) (ty_at names room)
@@ -234,6 +237,7 @@ ty_sound names (suc room) text rest t e = by (after_found (codes "'") _ _ text t
           let d = datatype_sound names room sound name middle rest t is.found in
           record { is = d.0; whole = whole ∙ d.1 }
     ]
+
     by : There (codes "'") (bind small_at (λ (n : ℕ). pure (ty.Var n))) text t rest ⊎ (bind word_at (λ (name : List ℕ). choice (λ (z : List ℕ). bytes_eq name (codes "Word")) (pure ty.Word) (datatype_at names (ty_at names room) name)) text ≡ Some (t, rest)) → Sound (TypeIn names room) (ty_text names) (ty_at names room) → Read (TypeIn names (suc room)) (ty_text names) text t rest
     by (inl there) sound =
         let b = bind_found small_at (λ (n : ℕ). pure (ty.Var n)) there.behind t rest there.found in

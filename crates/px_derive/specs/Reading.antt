@@ -99,8 +99,8 @@ ty_at names zero = nothing
 ty_at names (suc room) = after (codes "'") (do
   n ← small_at
   pure (type.Var n)) (do
-  word ← word_at
-  choice (λ text. bytes_eq word (codes "Word")) (pure type.Word) (datatype_at names (ty_at names room) word))
+    word ← word_at
+    choice (λ text. bytes_eq word (codes "Word")) (pure type.Word) (datatype_at names (ty_at names room) word))
 
 -- a list of types, with commas between
 unfoldable pub tys_at : Names → ℕ → Reader (List Ty)
@@ -111,8 +111,8 @@ unfoldable pub head_at : Names → Reader Head
 head_at names = after (codes "%") (do
   n ← small_at
   pure (FnVar n)) (do
-  word ← word_at
-  lift (head_named names word))
+    word ← word_at
+    lift (head_named names word))
 
 -- `( Lower | "%" N ) [ "<" types ">" ]`, whose types may have so many levels
 unfoldable pub fun_at : Names → ℕ → Reader Fun
@@ -263,10 +263,10 @@ reference_at names = after (codes "%") (do
   n ← small_at
   _ ← skip (codes ".")
   property_at (Some (FnVar n))) (do
-  word ← word_at
-  after (codes ".") (property_at (head_named names word)) (do
-    n ← lift (number_named names.lemmas word)
-    pure (reference.Lemma n)))
+    word ← word_at
+    after (codes ".") (property_at (head_named names word)) (do
+      n ← lift (number_named names.lemmas word)
+      pure (reference.Lemma n)))
 
 -- a list between `[` and `]`, which may be empty
 unfoldable pub brackets_at : {T : Type 0} → Reader (List T) → Reader (List T)

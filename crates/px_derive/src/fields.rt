@@ -181,10 +181,7 @@ fn read_property(head: Option<Head>, text: Rest<'_>) -> Result<(Ref, Rest<'_>), 
 
 /// The reference at the front, and the bytes after it: a property of a function, or a lemma.
 #[tactic(auto, unfolding(crate::specs::Reading::reference_at, crate::specs::Readers::after, crate::specs::Readers::bind, crate::specs::Readers::lift, crate::specs::Readers::pure))]
-pub(crate) fn read_reference<'t>(
-    names: &Names,
-    text: Rest<'t>,
-) -> Result<(Ref, Rest<'t>), LineEnd>
+pub(crate) fn read_reference<'t>(names: &Names, text: Rest<'t>) -> Result<(Ref, Rest<'t>), LineEnd>
     ensures { Gives result (reference_at names.now (left text.entry)) }
 {
     if let Some(after) = text.past(b"%") {

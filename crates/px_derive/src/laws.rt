@@ -4,5 +4,4 @@ ghost use Rattle.px_derive.specs.Laws.{OneRow};
 /// A line is at most one row's.
 pub fn one_row()
     ensures { OneRow }
-{
-}
+{}

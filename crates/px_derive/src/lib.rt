@@ -7,8 +7,8 @@
 #![tactic(auto)]
 
 mod fields;
-mod line_end;
 mod laws;
+mod line_end;
 mod lines;
 mod lookups;
 mod numbers;
@@ -18,6 +18,8 @@ mod rest;
 mod row;
 mod runs;
 mod terms;
+#[cfg(test)]
+mod tests;
 mod trees;
 mod types;
 

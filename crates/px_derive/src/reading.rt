@@ -88,11 +88,7 @@ fn read_sigma<'t>(
     let (funs, rest) = bracketed_funs(alloc, names, rest)?;
     let rest = rest.skip(b" ")?;
     let (terms, rest) = bracketed_terms(alloc, names, rest)?;
-    let sigma = Sigma {
-        types,
-        funs,
-        terms,
-    };
+    let sigma = Sigma { types, funs, terms };
     Ok((sigma, rest))
 }
 
@@ -125,11 +121,7 @@ fn read_header(alloc: Global, text: Rest<'_>) -> Result<(Row, Rest<'_>), LineEnd
 
 /// The note at the front, after its word, and the bytes after it.
 #[tactic(auto, unfolding(crate::specs::Reading::note_at, crate::specs::Readers::bind, crate::specs::Readers::pure))]
-fn read_note<'t>(
-    alloc: Global,
-    names: &Names,
-    text: Rest<'t>,
-) -> Result<(Row, Rest<'t>), LineEnd>
+fn read_note<'t>(alloc: Global, names: &Names, text: Rest<'t>) -> Result<(Row, Rest<'t>), LineEnd>
     ensures { Gives result (note_at names.now (left text.entry)) }
 {
     let (reference, rest) = read_reference(names, text)?;
@@ -159,11 +151,7 @@ fn read_hypothesis<'t>(
 
 /// The term whose cases are taken, at the front, and the bytes after it.
 #[tactic(auto, unfolding(crate::specs::Reading::split_at, crate::specs::Readers::bind, crate::specs::Readers::pure))]
-fn read_split<'t>(
-    alloc: Global,
-    names: &Names,
-    text: Rest<'t>,
-) -> Result<(Row, Rest<'t>), LineEnd>
+fn read_split<'t>(alloc: Global, names: &Names, text: Rest<'t>) -> Result<(Row, Rest<'t>), LineEnd>
     ensures { Gives result (split_at names.now (left text.entry)) }
 {
     let (term, rest) = read_term(alloc, names, ROW_DEPTH, text)?;
@@ -193,11 +181,7 @@ fn read_wide_row<'t>(
 
 /// The row or the header at the front, and the bytes after it.
 #[tactic(auto, unfolding(crate::specs::Reading::row_at, crate::specs::Reading::numbered_at, crate::specs::Readers::after, crate::specs::Readers::bind, crate::specs::Readers::pure))]
-fn read_row<'t>(
-    alloc: Global,
-    names: &Names,
-    text: Rest<'t>,
-) -> Result<(Row, Rest<'t>), LineEnd>
+fn read_row<'t>(alloc: Global, names: &Names, text: Rest<'t>) -> Result<(Row, Rest<'t>), LineEnd>
     ensures { Gives result (row_at names.now (left text.entry)) }
 {
     if let Some(after) = text.past(b"step ") {
@@ -243,15 +227,14 @@ fn read_whole(alloc: Global, names: &Names, line: &[u8]) -> Result<Row, LineEnd>
 /// constructor, a datatype or a function with a wrong number of arguments is read. Each byte is looked at a few times, and
 /// a name is looked for among those of its kind.
 pub fn read_line(alloc: Global, names: &Names, line: &[u8]) -> Result<Row, LineEnd>
-    requires { IsLawful names.now }
-
     // What is read is spelled so.
     ensures spellable { IfOk result (λ row. IsSpellable names.now row) }
     ensures spelled { IfOk result (λ row. line.now ≡ line_of names.now row) }
 
-    // The line of a row is read as that row, unless memory runs out, and a line is `Form` only where it is no row's.
-    ensures read { (row : TheRow) → IsSpellable names.now row → line.now ≡ line_of names.now row → MatchResult result (λ read. read ≡ row) (λ end. end ≡ NoMemory) }
-    ensures form { result ≡ Err LineEnd.Form → IsNoLine names.now line.now }
+    // With lawful names the line of a row is read as that row, unless memory runs out, and a line is `Form` only where it is
+    // no row's.
+    ensures read { IsLawful names.now → (row : TheRow) → IsSpellable names.now row → line.now ≡ line_of names.now row → MatchResult result (λ read. read ≡ row) (λ end. end ≡ NoMemory) }
+    ensures form { IsLawful names.now → result ≡ Err LineEnd.Form → IsNoLine names.now line.now }
 {
     read_whole(alloc, names, line)
 }

@@ -9,7 +9,7 @@ use crate::printing::{
 };
 use crate::row::{Row, Tree};
 use px_base::{Names, NoMemory, Prop};
-use px_terms::{Kind, Ref, Sigma, Side, Target, Term};
+use px_terms::{Kind, Ref, Side, Sigma, Target, Term};
 use px_world::Bytes;
 use std::alloc::Global;
 
@@ -54,12 +54,7 @@ fn print_bracketed(out: &mut Bytes, names: &Names, terms: &[Term]) -> Result<(),
 }
 
 /// Adds a note's line.
-fn print_note(
-    out: &mut Bytes,
-    names: &Names,
-    reference: Ref,
-    sigma: &Sigma,
-) -> Result<(), NoMemory>
+fn print_note(out: &mut Bytes, names: &Names, reference: Ref, sigma: &Sigma) -> Result<(), NoMemory>
     ensures { OnOk result (out.new ≡ out.old ++ note_words names.now reference sigma.now) }
 {
     match reference {

@@ -10,7 +10,7 @@ print_terms-returns t c = printed (term_text c.args.names.now) c.args.terms.now 
 pub print_arguments-returns : goal.print_arguments-returns
 print_arguments-returns t c =
     on_ok_weaker c.print_terms-2.result
-      (both_printed c.args.out.now c.print_funs.new.out c.push.new.self c.print_terms-2.new.out (map (fun_text c.args.names.now) c.args.funs.now) (map (term_text c.args.names.now) c.args.args.now)
-      (not_empty (fun_text c.args.names.now) c.args.funs.now c.is_empty.result c.is_empty.ensures c.if-is_empty.false) (not_empty (term_text c.args.names.now) c.args.args.now c.is_empty-2.result c.is_empty-2.ensures c.if-is_empty-2.false)
-      c.in_ok-print_funs.ensures c.in_ok-push.ensures.ok)
-      c.print_terms-2.ensures
+    (both_printed c.args.out.now c.print_funs.new.out c.push.new.self c.print_terms-2.new.out (map (fun_text c.args.names.now) c.args.funs.now) (map (term_text c.args.names.now) c.args.args.now)
+    (not_empty (fun_text c.args.names.now) c.args.funs.now c.is_empty.result c.is_empty.ensures c.if-is_empty.false) (not_empty (term_text c.args.names.now) c.args.args.now c.is_empty-2.result c.is_empty-2.ensures c.if-is_empty-2.false)
+    c.in_ok-print_funs.ensures c.in_ok-push.ensures.ok)
+    c.print_terms-2.ensures

@@ -8,7 +8,7 @@ pub returns-clause-spelled : goal.returns-clause-spelled
 returns-clause-spelled c = spelled_of c.args.names.now c.args.line.now c.read_whole.result c.read_whole.ensures
 
 pub returns-clause-read : goal.returns-clause-read
-returns-clause-read c = read_of c.args.names.now c.args.line.now c.read_whole.result c.requires c.read_whole.ensures
+returns-clause-read c = λ lawful. read_of c.args.names.now c.args.line.now c.read_whole.result lawful c.read_whole.ensures
 
 pub returns-clause-form : goal.returns-clause-form
-returns-clause-form c = form_of c.args.names.now c.args.line.now c.read_whole.result c.requires c.read_whole.ensures
+returns-clause-form c = λ lawful. form_of c.args.names.now c.args.line.now c.read_whole.result lawful c.read_whole.ensures
