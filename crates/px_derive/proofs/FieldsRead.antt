@@ -1,10 +1,8 @@
 -- Sides, targets, paths, kinds of steps, references and lists of numbers are read as they are written.
-use Rattle.std.proofs.Common.{◌≡◌, ℕ, zero, suc, ◌+◌, ◌<◌, ◌≤◌, ◌^◌, ◌⊎◌, Bool, true, false, List, [], ◌∷◌, ◌++◌, map, Option, Some, None, refl, sym, ap, ◌∙◌, subst, inl, inr, append_assoc, arith, codes, ◌==◌, lit≤}
-use Rattle.std.specs.List.{AllByRecursion, join_with_byte, flat_map}
+use Rattle.std.proofs.Common.{◌≡◌, ℕ, ◌<◌, ◌^◌, Bool, true, false, List, [], ◌∷◌, ◌++◌, Option, Some, None, refl, sym, ap, ◌∙◌, subst, inl, inr, append_assoc, arith, codes, lit≤}
+use Rattle.std.specs.List.{AllByRecursion}
 use Rattle.std.specs.Char.{is_ascii_digit, is_ascii_lowercase}
 use Rattle.std.specs.Fmt.{decimal}
-use Rattle.std.proofs.lemmas.Bool.Decides.{nat_tests}
-use Rattle.std.proofs.lemmas.List.{append-nil}
 use Rattle.px_base.specs.NameForms.{is_name_part}
 use Rattle.px_base.specs.declared.names.Names.{Names}
 use Rattle.px_base.specs.declared.head.Head.{Head}
@@ -19,18 +17,18 @@ use Rattle.px_terms.specs.declared.row.Kind.{Kind}
 use Rattle.px_terms.specs.declared.row.Kind.TheVariants as kind
 use Rattle.px_terms.specs.declared.row.Ref.{Ref}
 use Rattle.px_terms.specs.declared.row.Ref.TheVariants as reference
-use Rattle.px_terms.specs.Spelling.{side_letter, target_word, path_word, kind_words, on_words}
+use Rattle.px_terms.specs.Spelling.{side_letter, target_word, path_word, kind_words}
 use Rattle.px_terms.specs.Readable.{AreSmall, IsReadableTarget, IsReadableKind}
 use Rattle.px_derive.specs.Spelling.{name_at, head_text, prop_word}
 use Rattle.px_derive.specs.Spellable.{IsNumberOf, IsSpellableHead}
-use Rattle.px_derive.specs.Readers.{Reader, pure, nothing, lift, bind, past, skip, after, choice, begins, number_at, push, gather, list_at}
+use Rattle.px_derive.specs.Readers.{pure, lift, bind, past, skip, after, begins, push, gather, list_at}
 use Rattle.px_derive.specs.Reading.{small_at, word_at, number_named, head_named, side_at, target_at, numbers_at, path_at, direction_at, kind_at, relation_prop_at, prop_at, property_at, reference_at}
 use Rattle.px_derive.proofs.Fronts.{run_found, IsRun}
-use Rattle.px_derive.proofs.Found.{Equal, Then, bind_found, bind_goes, Lifted, lift_found, lift_some, pure_found, nothing_found, There, after_found, after_there, after_absent, skip_found, skip_whole, Chosen, choice_found, choice_first, choice_other}
+use Rattle.px_derive.proofs.Found.{Equal, bind_found, bind_goes, Lifted, lift_found, lift_some, pure_found, nothing_found, There, after_found, after_there, after_absent, skip_found, skip_whole, choice_found, choice_first, choice_other}
 use Rattle.px_derive.proofs.NumberFacts.{ReadNumber, number_sound, number_complete, number_begins}
-use Rattle.px_derive.proofs.ListFacts.{Read, Sound, IsRead, number_starts, push_gathers, Gathered, gather_sound, gather_complete, followed, joined}
+use Rattle.px_derive.proofs.ListFacts.{Sound, IsRead, number_starts, push_gathers, gather_sound, gather_complete, followed, joined}
 use Rattle.px_derive.proofs.NameFacts.{named_number, IsNamed, number_found}
-use Rattle.px_derive.proofs.TypesRead.{IsWord, word_not, word_read, HasNames, IsHead, head_named_found, definition_named, no_percent, wle_word, weq_word, wle_named, weq_named}
+use Rattle.px_derive.proofs.TypesRead.{IsWord, word_not, word_read, HasNames, head_named_found, definition_named, no_percent, wle_word, weq_word, wle_named, weq_named}
 
 -- the text ends, or goes on with no digit
 abbrev pub EndsNumber : List ℕ → Type 0

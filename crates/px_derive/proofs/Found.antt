@@ -1,5 +1,5 @@
 -- What joined readers find, taken apart and put together.
-use Rattle.std.proofs.Common.{◌≡◌, ℕ, ◌⊎◌, Bool, true, false, cond, List, [], ◌∷◌, ◌++◌, Option, Some, None, refl, sym, ap, ◌∙◌, subst, inl, inr}
+use Rattle.std.proofs.Common.{◌≡◌, ℕ, ◌⊎◌, Bool, true, false, cond, List, ◌++◌, Option, Some, None, refl, ap, ◌∙◌, inl, inr}
 use Rattle.std.specs.Option.{option_and_then}
 use Rattle.px_derive.specs.Readers.{pure, nothing, lift, bind, past, skip, from_there, after, choice}
 use Rattle.px_derive.proofs.Fronts.{past_sound, past_whole}

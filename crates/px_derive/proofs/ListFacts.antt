@@ -1,17 +1,16 @@
 -- Lists are read as they are written: an item, and then each further one after a separator.
-use Rattle.std.proofs.Common.{◌≡◌, ℕ, zero, suc, ◌+◌, ◌<◌, ◌≤◌, ◌⊎◌, Bool, true, false, cond, List, [], ◌∷◌, ◌++◌, length, map, Option, Some, None, refl, sym, ap, ◌∙◌, subst, inl, inr, append_assoc, arith, length-append, ◌==◌, ◌||◌, ◌^◌}
+use Rattle.std.proofs.Common.{◌≡◌, ℕ, zero, suc, ◌<◌, ◌≤◌, ◌⊎◌, Bool, true, false, cond, List, [], ◌∷◌, ◌++◌, length, map, Option, Some, None, refl, sym, ap, ◌∙◌, subst, inl, inr, append_assoc, arith, length-append, ◌==◌, ◌||◌, ◌^◌}
 use Rattle.std.specs.Char.{is_ascii_digit}
 use Rattle.std.specs.Fmt.{decimal}
 use Rattle.std.proofs.lemmas.Bool.Decides.{nat_tests}
 use Rattle.px_derive.proofs.NumberFacts.{number_begins}
 use Rattle.px_base.specs.NameForms.{is_name_part}
-use Rattle.std.specs.Option.{option_and_then}
 use Rattle.std.specs.List.{AllByRecursion, join_with_byte, flat_map}
 use Rattle.std.proofs.lemmas.List.{append-nil}
 use Rattle.px_derive.specs.Spelling.{between}
-use Rattle.px_derive.specs.Readers.{Reader, begins, bind, lift, pure, past, skip, after, from_there, more_of, more_at, gather, push, list_at, opened_at, closed_at}
-use Rattle.px_derive.proofs.Fronts.{past_sound, past_whole}
-use Rattle.px_derive.proofs.Found.{Equal, one_read, Then, bind_found, bind_goes, Lifted, lift_found, lift_some, pure_found, There, after_found, after_there, after_absent, skip_found, skip_whole, and_then_same}
+use Rattle.px_derive.specs.Readers.{Reader, begins, bind, lift, pure, past, skip, after, more_of, more_at, gather, push, list_at, opened_at, closed_at}
+use Rattle.px_derive.proofs.Fronts.{past_whole}
+use Rattle.px_derive.proofs.Found.{Equal, bind_found, bind_goes, Lifted, lift_found, lift_some, pure_found, There, after_found, after_there, after_absent, skip_found, skip_whole, and_then_same}
 
 -- What was read off the front: it is as it should be, and stood there.
 pub record Read {T : Type 0} (Is : T → Type 0) (written : T → List ℕ) (text : List ℕ) (x : T) (rest : List ℕ) : Type 0 where

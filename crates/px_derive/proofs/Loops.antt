@@ -1,16 +1,15 @@
 -- What a loop over the items of a list has read, and what is still to come.
-use Rattle.std.proofs.Common.{◌≡◌, ℕ, ◌<◌, ◌≤◌, ◌^◌, List, [], ◌∷◌, ◌++◌, length, Option, Some, None, refl, sym, ap, ◌∙◌, lit≤}
+use Rattle.std.proofs.Common.{◌≡◌, ℕ, ◌<◌, ◌^◌, List, [], ◌∷◌, Option, Some, None, refl, sym, ◌∙◌}
 use Rattle.std.specs.Fmt.{decimal}
 use Rattle.px_base.specs.declared.names.Names.{Names}
-use Rattle.px_derive.specs.Readers.{bind, lift, past, more_at, gather, push, list_at, number_at}
+use Rattle.px_derive.specs.Readers.{bind, lift, past, more_at, gather}
 use Rattle.px_derive.specs.Reading.{small_at, ty_at, fun_at, argument_at, value_at, term_at}
 use Rattle.px_derive.specs.Gives.{Fails}
 use Rattle.px_derive.specs.declared.line_end.LineEnd.{LineEnd}
 use Rattle.px_derive.specs.declared.line_end.LineEnd.TheVariants.{Form, NoMemory}
 use Rattle.px_derive.specs.Spelling.{ty_text, fun_text, term_text}
 use Rattle.px_derive.proofs.Found.{bind_goes, lift_some}
-use Rattle.px_derive.proofs.NumberFacts.{number_sound}
-use Rattle.px_derive.proofs.ListFacts.{Stays, sound_stays, more_stops, more_goes, more_breaks, more_refuses, more_shorter}
+use Rattle.px_derive.proofs.ListFacts.{Stays, sound_stays, more_stops, more_goes, more_breaks, more_refuses}
 use Rattle.px_derive.proofs.TypesRead.{TypeIn, ty_sound, FunctionIn, fun_sound}
 use Rattle.px_derive.proofs.TermsRead.{TermIn, ArgumentIn, argument_text, argument_sound, term_sound}
 use Rattle.px_derive.proofs.FieldsRead.{numbers_sound}

@@ -1,8 +1,7 @@
 -- Names are found by their numbers, where no two of a kind are equal.
-use Rattle.std.proofs.Common.{◌≡◌, ◌≢◌, ℕ, zero, suc, ◌+◌, ◌<◌, ◌≤◌, ◌^◌, ◌⊎◌, Bool, true, false, not, cond, ◌&&◌, List, [], ◌∷◌, ◌++◌, length, drop, get_or, slice_get, unwrap_or, Option, Some, None, refl, sym, ap, ◌∙◌, subst, inl, inr, arith, nat_lt}
+use Rattle.std.proofs.Common.{◌≡◌, ℕ, zero, suc, ◌+◌, ◌<◌, ◌≤◌, ◌^◌, Bool, true, false, not, cond, ◌&&◌, List, [], ◌∷◌, ◌++◌, length, drop, get_or, Option, Some, None, refl, sym, ap, ◌∙◌, subst, arith, nat_lt}
 use Rattle.std.specs.Prelude.{Contains}
-use Rattle.std.specs.Option.{option_and_then}
-use Rattle.std.specs.List.{position, position_or_len, flat_map}
+use Rattle.std.specs.List.{position_or_len, flat_map}
 use Rattle.std.specs.Str.{bytes_eq}
 use Rattle.std.proofs.lemmas.Slice.Eq.{bytes_eq-Decides}
 use Rattle.std.proofs.lemmas.Bool.Decides.{Decides-ltb}
@@ -16,7 +15,7 @@ use Rattle.px_derive.specs.Spelling.{name_at, constructors_at}
 use Rattle.px_derive.specs.Spellable.{IsNumberOf, IsConstructorOf}
 use Rattle.px_derive.specs.Reading.{small, place_of, number_named, constructor_or, constructor_from, small_constructor, constructor_named}
 use Rattle.px_derive.specs.declared.lookups.Constructor.{Constructor}
-use Rattle.px_derive.proofs.Found.{Both, and_then_some, decided}
+use Rattle.px_derive.proofs.Found.{Both, and_then_some}
 
 -- a number that is small
 pub small_is : (n m : ℕ) → small n ≡ Some m → (n ≡ m) × (m < 2 ^ 32)

@@ -1,5 +1,5 @@
 -- Numbers are read as they are written.
-use Rattle.std.proofs.Common.{◌≡◌, ℕ, zero, suc, ◌+◌, ◌<◌, ◌≤◌, ◌^◌, ◌⊎◌, Bool, true, false, cond, ◌&&◌, List, [], ◌∷◌, ◌++◌, length, take, drop, get_or, Option, Some, None, refl, sym, ap, ◌∙◌, subst, inl, inr, arith, rules, ◌==◌, nat_lt}
+use Rattle.std.proofs.Common.{◌≡◌, ℕ, zero, suc, ◌<◌, ◌≤◌, ◌^◌, ◌⊎◌, Bool, true, false, cond, ◌&&◌, List, [], ◌∷◌, ◌++◌, length, take, drop, get_or, Option, Some, None, refl, sym, ap, ◌∙◌, subst, inl, inr, arith, ◌==◌, nat_lt}
 use Rattle.std.specs.Option.{option_and_then}
 use Rattle.std.specs.Prelude.{MatchOption, All, IsTrue}
 use Rattle.std.proofs.lemmas.List.Elements.{All-from_recursion}
@@ -17,7 +17,7 @@ use Rattle.std.proofs.lemmas.Bool.Decides.{Decides-eqb, Decides-ltb, nat_tests}
 use Rattle.px_derive.specs.Readers.{bind, lift, run_of, begins, is_numeral, number_of, number_at}
 use Rattle.px_derive.specs.Reading.{small}
 use Rattle.px_derive.proofs.Fronts.{IsRun, run_is, run_found, run_whole}
-use Rattle.px_derive.proofs.Found.{Then, bind_found, bind_goes, Lifted, lift_found, lift_some, decided, read}
+use Rattle.px_derive.proofs.Found.{bind_found, bind_goes, Lifted, lift_found, lift_some, read}
 
 -- each byte is a digit
 abbrev pub AreDigits : List ℕ → Type 0

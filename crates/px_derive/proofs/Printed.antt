@@ -1,5 +1,5 @@
 -- What a loop over the items of a list has written.
-use Rattle.std.proofs.Common.{◌≡◌, ℕ, zero, suc, ◌-◌, ◌<◌, ◌≤◌, List, [], ◌∷◌, ◌++◌, length, map, take, drop, get_or, refl, sym, ap, ◌∙◌, append_assoc, arith, Bool, true, false, ◌==◌}
+use Rattle.std.proofs.Common.{◌≡◌, ℕ, ◌-◌, ◌<◌, ◌≤◌, List, [], ◌∷◌, ◌++◌, length, map, take, drop, get_or, refl, sym, ap, ◌∙◌, append_assoc, arith, Bool, true, false, ◌==◌}
 use Rattle.std.specs.List.{join_with_byte, flat_map}
 use Rattle.std.proofs.lemmas.List.{take_rest, take_all}
 use Rattle.px_derive.specs.Spelling.{commas}

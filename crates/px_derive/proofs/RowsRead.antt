@@ -1,8 +1,6 @@
 -- A row is read exactly where its line stands.
-use Rattle.std.proofs.Common.{◌≡◌, ℕ, zero, suc, ◌+◌, ◌<◌, ◌≤◌, ◌^◌, ◌⊎◌, Bool, true, false, List, [], ◌∷◌, ◌++◌, map, Option, Some, None, refl, sym, ap, ◌∙◌, subst, inl, inr, append_assoc, arith, codes, ◌==◌, lit≤}
-use Rattle.std.specs.Option.{option_and_then}
-use Rattle.std.specs.List.{AllByRecursion, join_with_byte}
-use Rattle.std.specs.Char.{is_ascii_digit}
+use Rattle.std.proofs.Common.{◌≡◌, ℕ, ◌<◌, ◌^◌, true, false, List, [], ◌∷◌, ◌++◌, map, Option, Some, refl, sym, ap, ◌∙◌, subst, inl, inr, append_assoc, arith, codes, ◌==◌, lit≤}
+use Rattle.std.specs.List.{AllByRecursion}
 use Rattle.std.specs.Fmt.{decimal}
 use Rattle.std.proofs.lemmas.Bool.Decides.{nat_tests}
 use Rattle.std.proofs.lemmas.List.{append-nil}
@@ -21,15 +19,15 @@ use Rattle.px_terms.specs.Readable.{AreSmall, IsReadableTarget, IsReadableKind}
 use Rattle.px_derive.specs.declared.row.Row.{Row}
 use Rattle.px_derive.specs.declared.row.Row.TheVariants as row
 use Rattle.px_derive.specs.Spelling.{name_at, head_text, prop_word, commas, in_brackets, ty_text, fun_text, term_text, sigma_words, note_words, line_of}
-use Rattle.px_derive.specs.Spellable.{IsNumberOf, IsSpellableHead, IsRowType, IsRowFunction, IsRowTerm, IsRowSigma, IsHypothesisSigma, IsSpellableNote, IsSpellable}
-use Rattle.px_derive.specs.Readers.{Reader, pure, nothing, lift, bind, past, skip, after, choice, begins, number_at, push, gather, list_at, closed_at}
-use Rattle.px_derive.specs.Reading.{small_at, ty_at, tys_at, fun_at, funs_at, term_at, terms_at, value_at, values_at, argument_at, target_at, numbers_at, path_at, kind_at, reference_at, brackets_at, sigma_at, header_at, step_at, note_at, hypothesis_at, numbered_at, split_at, wide_row_at, row_at, alone, line_row}
-use Rattle.px_derive.proofs.Found.{Equal, one_read, Both, and_then_some, Then, bind_found, bind_goes, Lifted, lift_found, lift_some, pure_found, nothing_found, There, after_found, after_there, after_absent, skip_found, skip_whole}
+use Rattle.px_derive.specs.Spellable.{IsRowType, IsRowFunction, IsRowTerm, IsRowSigma, IsHypothesisSigma, IsSpellableNote, IsSpellable}
+use Rattle.px_derive.specs.Readers.{Reader, pure, skip, after, push, gather, list_at, closed_at}
+use Rattle.px_derive.specs.Reading.{small_at, ty_at, tys_at, fun_at, funs_at, term_at, terms_at, values_at, target_at, numbers_at, path_at, kind_at, reference_at, brackets_at, sigma_at, header_at, step_at, note_at, hypothesis_at, numbered_at, split_at, wide_row_at, row_at, alone, line_row}
+use Rattle.px_derive.proofs.Found.{Equal, Both, and_then_some, bind_found, bind_goes, pure_found, nothing_found, There, after_found, after_there, after_absent, skip_found, skip_whole}
 use Rattle.px_derive.proofs.NumberFacts.{ReadNumber, number_sound, number_complete}
-use Rattle.px_derive.proofs.ListFacts.{Read, Sound, IsRead, begins_item, push_gathers, Closed, closed_sound, closed_complete, followed}
+use Rattle.px_derive.proofs.ListFacts.{Sound, IsRead, begins_item, push_gathers, closed_sound, closed_complete, followed}
 use Rattle.px_derive.proofs.TypesRead.{Ends, HasNames, TypeIn, ty_sound, ty_complete, FunctionIn, fun_sound, fun_complete}
 use Rattle.px_derive.proofs.TermsRead.{TermIn, term_sound, term_complete}
-use Rattle.px_derive.proofs.FieldsRead.{EndsNumber, ReadTarget, target_sound, target_complete, ReadNumbers, list_sound, list_complete, ReadPath, path_sound, path_complete, ReadKind, kind_sound, kind_complete, IsSpellableReference, reference_text, ReadReference, reference_sound, property_reads, lemma_reads}
+use Rattle.px_derive.proofs.FieldsRead.{EndsNumber, ReadTarget, target_sound, target_complete, list_sound, list_complete, ReadPath, path_sound, path_complete, ReadKind, kind_sound, kind_complete, IsSpellableReference, reference_text, ReadReference, reference_sound, property_reads, lemma_reads}
 
 -- A list in brackets was read.
 record Bracketed {T : Type 0} (Is : T → Type 0) (written : T → List ℕ) (text : List ℕ) (xs : List T) (rest : List ℕ) : Type 0 where

@@ -1,5 +1,5 @@
 -- What reading an argument finds, at each way out of its function.
-use Rattle.std.proofs.Common.{◌≡◌, ℕ, zero, suc, ◌-◌, ◌<◌, ◌≤◌, true, false, List, [], ◌∷◌, Option, Some, None, refl, arith, codes}
+use Rattle.std.proofs.Common.{◌≡◌, ℕ, zero, suc, ◌-◌, ◌<◌, true, false, List, Some, None, refl, arith, codes}
 use Rattle.std.specs.Char.{is_ascii_digit, is_ascii_uppercase}
 use Rattle.px_base.specs.declared.names.Names.{Names}
 use Rattle.px_terms.specs.declared.term.Term.TheVariants as term

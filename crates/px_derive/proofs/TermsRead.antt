@@ -1,6 +1,6 @@
 -- Terms are read as they are written.
 use Rattle.std.proofs.Common.{◌≡◌, ℕ, zero, suc, ◌+◌, ◌<◌, ◌≤◌, ◌^◌, ◌⊎◌, max, Bool, true, false, List, [], ◌∷◌, ◌++◌, map, Option, Some, None, refl, sym, ap, ◌∙◌, subst, inl, inr, append_assoc, arith, codes, ◌==◌, lit≤}
-use Rattle.std.specs.List.{AllByRecursion, join_with_byte}
+use Rattle.std.specs.List.{AllByRecursion}
 use Rattle.std.specs.Char.{is_ascii_digit, is_ascii_uppercase, is_ascii_lowercase}
 use Rattle.std.specs.Fmt.{decimal}
 use Rattle.std.proofs.lemmas.Bool.Decides.{nat_tests}
@@ -20,18 +20,17 @@ use Rattle.px_terms.specs.TreeEquations.{term_depth-Free, term_depth-Lit, term_d
 use Rattle.px_derive.specs.declared.terms.Argument.{Argument}
 use Rattle.px_derive.specs.declared.terms.Argument.TheVariants.{Function, Value}
 use Rattle.px_derive.specs.declared.terms.Arguments.{Arguments}
-use Rattle.px_derive.specs.declared.lookups.Constructor.{Constructor}
-use Rattle.px_derive.specs.Spelling.{name_at, constructors_at, commas, between, in_angles, in_parentheses, ty_text, fun_text, term_text}
+use Rattle.px_derive.specs.Spelling.{name_at, constructors_at, commas, in_angles, in_parentheses, ty_text, fun_text, term_text}
 use Rattle.px_derive.specs.Spellable.{IsConstructorOf, AreSpellableTypes, IsSpellableFunction, IsSpellableTerm, AreSpellableTerms, free, literal, construction, call, no_terms, more_terms}
-use Rattle.px_derive.specs.Readers.{Reader, pure, nothing, lift, bind, past, skip, after, choice, begins, number_at, push, gather, list_at, opened_at, closed_at}
-use Rattle.px_derive.specs.Reading.{small_at, literal_at, word_at, constructor_named, angles_at, ty_at, fun_at, no_arguments, function_added, argument_added, term_of, value_at, values_at, fields_at, construction_at, some_arguments_at, arguments_at, called_at, function_at, argument_at, term_at, terms_at}
+use Rattle.px_derive.specs.Readers.{pure, lift, bind, past, choice, begins, gather, list_at, opened_at, closed_at}
+use Rattle.px_derive.specs.Reading.{small_at, literal_at, word_at, constructor_named, angles_at, ty_at, fun_at, no_arguments, function_added, argument_added, term_of, value_at, values_at, fields_at, construction_at, some_arguments_at, arguments_at, called_at, function_at, argument_at, term_at}
 use Rattle.px_derive.proofs.Fronts.{run_found, IsRun}
-use Rattle.px_derive.proofs.Found.{Equal, Then, bind_found, bind_goes, Lifted, lift_found, lift_some, pure_found, nothing_found, There, after_found, after_there, after_absent, Chosen, choice_found, choice_first, choice_other}
+use Rattle.px_derive.proofs.Found.{Equal, bind_found, bind_goes, Lifted, lift_found, lift_some, pure_found, nothing_found, There, after_found, after_there, after_absent, choice_found, choice_first, choice_other}
 use Rattle.px_derive.proofs.NumberFacts.{ReadNumber, number_sound, number_complete, number_begins}
-use Rattle.px_derive.proofs.ListFacts.{Read, Sound, IsRead, begins_item, Starts, starts_more, number_starts, Gathers, push_gathers, Opened, opened_sound, opened_complete, Closed, closed_sound, closed_complete}
+use Rattle.px_derive.proofs.ListFacts.{Read, Sound, IsRead, begins_item, starts_more, number_starts, Gathers, opened_sound, opened_complete, Closed, closed_sound, closed_complete}
 use Rattle.px_derive.proofs.NameFacts.{constructor_of, named_constructor, IsNamedConstructor, constructor_found}
 use Rattle.px_derive.proofs.TextEquations.{term_text-Free, term_text-Lit, term_text-Con, term_text-Call}
-use Rattle.px_derive.proofs.TypesRead.{Ends, ends_word, ends_number, ends_less, ends_parenthesis, IsWord, upper_starts, word_not, word_read, HasNames, TypeIn, types_in, angles_sound, ty_sound, angles_complete, tys_complete, after_name, StartsHead, starts_of_head, starts_head_more, FunctionIn, fun_sound, fun_reads, fun_starts}
+use Rattle.px_derive.proofs.TypesRead.{Ends, ends_word, ends_number, ends_less, ends_parenthesis, IsWord, upper_starts, word_not, word_read, HasNames, TypeIn, types_in, angles_sound, ty_sound, angles_complete, tys_complete, after_name, StartsHead, starts_of_head, FunctionIn, fun_sound, fun_reads, fun_starts}
 
 -- The term is one of a row, with so many levels.
 pub record TermIn (names : Names) (room : ℕ) (t : Term) : Type 0 where

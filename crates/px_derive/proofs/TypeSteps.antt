@@ -1,8 +1,7 @@
 -- What reading a type finds, at each way out of its function.
-use Rattle.std.proofs.Common.{◌≡◌, ℕ, zero, suc, ◌-◌, ◌<◌, ◌≤◌, true, false, List, [], ◌∷◌, Option, Some, None, refl, sym, ap, ◌∙◌, arith, codes}
+use Rattle.std.proofs.Common.{◌≡◌, ℕ, zero, suc, ◌-◌, ◌<◌, true, false, List, Some, None, refl, arith, codes}
 use Rattle.std.specs.Str.{bytes_eq}
 use Rattle.px_base.specs.declared.names.Names.{Names}
-use Rattle.px_terms.specs.declared.types.Ty.{Ty}
 use Rattle.px_terms.specs.declared.types.Ty.TheVariants as ty
 use Rattle.px_derive.specs.Readers.{nothing, pure, bind, past, after, choice}
 use Rattle.px_derive.specs.Reading.{small_at, word_at, datatype_at, ty_at}

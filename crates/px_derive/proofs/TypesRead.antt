@@ -1,20 +1,19 @@
 -- Types and functions are read as they are written.
-use Rattle.std.proofs.Common.{◌≡◌, ℕ, zero, suc, ◌+◌, ◌<◌, ◌≤◌, ◌^◌, ◌⊎◌, max, Bool, true, false, cond, ◌||◌, List, [], ◌∷◌, ◌++◌, length, map, get_or, Option, Some, None, refl, sym, ap, ◌∙◌, subst, inl, inr, append_assoc, arith, codes, ◌==◌, IsTrue, lit≤}
-use Rattle.std.specs.Prelude.{All, Contains, slice_index}
-use Rattle.std.specs.List.{AllByRecursion, join_with_byte}
+use Rattle.std.proofs.Common.{◌≡◌, ℕ, zero, suc, ◌+◌, ◌<◌, ◌≤◌, ◌^◌, ◌⊎◌, Bool, true, false, cond, ◌||◌, List, [], ◌∷◌, ◌++◌, length, map, Some, None, refl, sym, ap, ◌∙◌, subst, inl, inr, append_assoc, arith, codes, ◌==◌, lit≤}
+use Rattle.std.specs.Prelude.{All, Contains}
+use Rattle.std.specs.List.{AllByRecursion}
 use Rattle.std.specs.Option.{option_and_then}
 use Rattle.std.specs.Str.{bytes_eq}
 use Rattle.std.specs.Char.{is_ascii_digit, is_ascii_uppercase, is_ascii_lowercase}
 use Rattle.std.specs.Fmt.{decimal}
 use Rattle.std.proofs.lemmas.Slice.Eq.{bytes_eq-Decides}
 use Rattle.std.proofs.lemmas.Bool.Decides.{nat_tests}
-use Rattle.std.proofs.lemmas.List.{append-nil, get_or_append_left, length-append}
+use Rattle.std.proofs.lemmas.List.{get_or_append_left, length-append}
 use Rattle.std.proofs.lemmas.Option.{unwrap_or-slice_get}
 use Rattle.std.proofs.lemmas.List.Elements.{Contains-get_or, Contains-append_right, All-get_or, recursion_from_All}
-use Rattle.px_base.specs.Largest.{largest}
-use Rattle.px_base.specs.Distinct.{AreDistinct, none, more}
+use Rattle.px_base.specs.Distinct.{AreDistinct, more}
 use Rattle.px_base.specs.NameForms.{is_name_part, IsName, IsUpperName, IsLowerName}
-use Rattle.px_base.specs.Lawful.{IsLawful, con_names, lower_names, type_names}
+use Rattle.px_base.specs.Lawful.{IsLawful, con_names}
 use Rattle.px_base.specs.declared.names.Names.{Names}
 use Rattle.px_base.specs.declared.head.Head.{Head}
 use Rattle.px_base.specs.declared.head.Head.TheVariants.{Def, Wle, Weq, FnVar}
@@ -25,14 +24,14 @@ use Rattle.px_terms.specs.declared.types.Ty.TheOpen.{Ty-F}
 use Rattle.px_terms.specs.declared.types.Fun.{Fun}
 use Rattle.px_terms.specs.Types.{ty_depth, tys_depth}
 use Rattle.px_terms.specs.TreeEquations.{ty_depth-Word, ty_depth-Var, ty_depth-Con}
-use Rattle.px_derive.specs.Spelling.{name_at, constructors_at, commas, between, in_angles, ty_text, head_text, fun_text}
+use Rattle.px_derive.specs.Spelling.{name_at, constructors_at, in_angles, ty_text, head_text, fun_text}
 use Rattle.px_derive.specs.Spellable.{IsNumberOf, IsConstructorOf, IsSpellableType, AreSpellableTypes, word, variable, datatype, no_types, more_types, IsSpellableHead, IsSpellableFunction}
-use Rattle.px_derive.specs.Readers.{Reader, pure, nothing, lift, bind, past, skip, after, choice, begins, run_of, number_at, push, gather, list_at, opened_at}
-use Rattle.px_derive.specs.Reading.{small_at, word_at, number_named, head_named, definition_of, angles_at, datatype_at, ty_at, tys_at, head_at, fun_at, funs_at}
-use Rattle.px_derive.proofs.Fronts.{past_whole, past_other, run_whole, run_found, IsRun}
-use Rattle.px_derive.proofs.Found.{Equal, one_read, Both, and_then_some, decided, Then, bind_found, bind_goes, Lifted, lift_found, lift_some, pure_found, nothing_found, There, after_found, after_there, after_absent, skip_found, skip_whole, Chosen, choice_found, choice_first, choice_other}
-use Rattle.px_derive.proofs.NumberFacts.{ReadNumber, number_sound, number_complete, number_begins}
-use Rattle.px_derive.proofs.ListFacts.{Read, Sound, IsRead, begins_item, Starts, starts_not, starts_more, Opened, opened_sound, opened_complete}
+use Rattle.px_derive.specs.Readers.{pure, lift, bind, past, choice, begins}
+use Rattle.px_derive.specs.Reading.{small_at, word_at, number_named, head_named, definition_of, angles_at, datatype_at, ty_at, head_at, fun_at}
+use Rattle.px_derive.proofs.Fronts.{past_other, run_whole, run_found, IsRun}
+use Rattle.px_derive.proofs.Found.{Equal, Both, and_then_some, bind_found, bind_goes, Lifted, lift_found, lift_some, pure_found, nothing_found, There, after_found, after_there, after_absent, choice_found, choice_first, choice_other}
+use Rattle.px_derive.proofs.NumberFacts.{ReadNumber, number_sound, number_complete}
+use Rattle.px_derive.proofs.ListFacts.{Read, Sound, IsRead, begins_item, Starts, starts_more, Opened, opened_sound, opened_complete}
 use Rattle.px_derive.proofs.NameFacts.{named_number, IsNamed, number_found, distinct_front, distinct_back, name_is}
 use Rattle.px_derive.proofs.TextEquations.{ty_text-Word, ty_text-Var, ty_text-Con}
 

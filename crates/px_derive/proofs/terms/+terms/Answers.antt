@@ -1,9 +1,9 @@
-use Rattle.std.proofs.Common.{[], ◌∷◌, ◌++◌, refl, sym, ap, ◌∙◌, ℕ, arith}
+use Rattle.std.proofs.Common.{[], ◌∷◌, ◌++◌, refl, sym, ap, ◌∙◌, arith}
 use Rattle.std.proofs.lemmas.Result.{err_from_is_err_and}
 use Rattle.px_terms.specs.declared.term.Term.{Term}
 use Rattle.px_derive.specs.Gives.{left}
 use Rattle.px_derive.specs.Readers.{push, list_at}
-use Rattle.px_derive.specs.Reading.{argument_added, no_arguments, ty_at, argument_at, value_at, values_at, fields_at, construction_at, function_at, called_at, arguments_at, some_arguments_at, term_at, terms_at}
+use Rattle.px_derive.specs.Reading.{argument_added, no_arguments, argument_at, value_at, values_at, some_arguments_at, term_at, terms_at}
 use Rattle.px_derive.specs.declared.terms.Arguments.{Arguments}
 use Rattle.px_derive.proofs.TermSteps.{no_room, variable_fails, a_variable, literal_fails, a_literal, a_construction, a_function}
 use Rattle.px_derive.proofs.ListFacts.{more_shorter}
