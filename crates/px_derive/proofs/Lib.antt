@@ -1,0 +1,16 @@
+pub mod Fronts
+pub mod Found
+pub mod NumberFacts
+pub mod ListFacts
+pub mod NameFacts
+pub mod TextEquations
+pub mod TypesRead
+pub mod TermsRead
+pub mod FieldsRead
+pub mod RowsRead
+pub mod DigitFacts
+pub mod Loops
+pub mod TypeSteps
+pub mod TermSteps
+pub mod LineAnswers
+pub mod Printed
