@@ -3,6 +3,7 @@
 //! (`specs/Written.antt`), and which fault is its first (`specs/Faults.antt`).
 #![tactic(auto)]
 
+mod alike;
 mod arguments;
 mod arms;
 mod ends;
