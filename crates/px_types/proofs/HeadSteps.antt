@@ -15,7 +15,6 @@ use Rattle.px_terms.specs.declared.types.Ty.TheOpen.{Ty-F}
 use Rattle.px_terms.specs.declared.types.FnType.{FnType}
 use Rattle.px_terms.specs.declared.program.Program.{Program}
 use Rattle.px_terms.specs.Types.{numbers_from, ty_instance_step, ty_instance, tys_instance, fn_type_instance, own_types}
-use Rattle.px_terms.specs.Programs.{bool_type}
 use Rattle.px_types.specs.declared.env.Stand.{Stand}
 use Rattle.px_types.specs.declared.env.Stand.TheVariants.{Body, Behind}
 use Rattle.px_types.specs.declared.heads.BuiltIn.{BuiltIn}

@@ -50,6 +50,6 @@ pub mod MetSteps
 pub mod TwoLoops
 pub mod HeadSteps
 pub mod SaidSteps
-pub mod ArgumentSteps
+pub mod AlikeSteps
 pub mod ArmSteps
 pub mod TermSteps

@@ -8,6 +8,7 @@
 //! `specs/ProgramLaws.antt`). Whether definitions descend is left to `px_descent`.
 #![tactic(auto)]
 
+mod alike;
 mod arguments;
 mod arms;
 mod checking;

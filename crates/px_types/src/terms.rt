@@ -8,7 +8,8 @@ ghost use Rattle.px_types.specs.Faults.{con_counts, counts_of};
 ghost use Rattle.px_types.specs.Outcome.{arm_found, call_found, con_found, has_con_counts, has_counts, match_found, no_arms, part_found, part_of, parts_found, term_found, type_of_variable, variable_found};
 ghost use Rattle.px_terms.specs.declared.term.Term.TheVariants as terms;
 
-use crate::arguments::{is_instance, is_same, type_arguments};
+use crate::alike::{is_instance, is_same};
+use crate::arguments::type_arguments;
 use crate::arms::{
     Chosen, Scrutinee, bind, bodies_of, constructor, empty_slots, parts_of, pattern, unbind,
     with_body,
@@ -324,7 +325,7 @@ fn type_parts(
         let is_met = instance_met(env, wanted_ty, wanted.types);
         need(is_met, TypeKind::Oversize, raw.at)?;
         let Typed { term, ty } = type_term(env, raw, bound)?;
-        let is_wanted = is_instance(env.alloc, &ty, wanted_ty, wanted.types)?;
+        let is_wanted = is_instance(&ty, wanted_ty, wanted.types);
         need(is_wanted, TypeKind::Mismatch, raw.at)?;
         terms.push(term)?;
     }

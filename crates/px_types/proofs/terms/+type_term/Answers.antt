@@ -148,7 +148,7 @@ type_parts-returns-in_err-need-2-clause-answers t c =
     (part_other E b c.raw-item.result T c.instance_met-is_met.result c.instance_met-is_met.ensures c.in_ok-need.field-0 c.in_ok-need.ensures
     c.in_ok-term.field-0
     (subst (λ (bound : List Ty). term_found E c.raw-item.result (reverse bound) ≡ Ok c.in_ok-term.field-0) c.loop-number.invariant.kept
-    c.in_ok-term.ensures.answers) c.in_ok-is_wanted.is_wanted c.in_ok-is_wanted.ensures end c.in_err-need-2.ensures) c.loop-number.invariant.rest))
+    c.in_ok-term.ensures.answers) c.is_instance-is_wanted.result c.is_instance-is_wanted.ensures end c.in_err-need-2.ensures) c.loop-number.invariant.rest))
 
 pub type_parts-loop-number-preserved : goal.type_parts-loop-number-preserved
 type_parts-loop-number-preserved t c =
@@ -163,7 +163,7 @@ type_parts-loop-number-preserved t c =
           (part_typed E b c.raw-item.result T c.instance_met-is_met.result c.instance_met-is_met.ensures c.in_ok-need.field-0 c.in_ok-need.ensures
           c.in_ok-term.field-0
           (subst (λ (bound : List Ty). term_found E c.raw-item.result (reverse bound) ≡ Ok c.in_ok-term.field-0) c.loop-number.invariant.kept
-          c.in_ok-term.ensures.answers) c.in_ok-is_wanted.is_wanted c.in_ok-is_wanted.ensures c.in_ok-need-2.field-0 c.in_ok-need-2.ensures)
+          c.in_ok-term.ensures.answers) c.is_instance-is_wanted.result c.is_instance-is_wanted.ensures c.in_ok-need-2.field-0 c.in_ok-need-2.ensures)
           c.in_ok-push.ensures.ok c.loop-number.invariant.rest;
       kept = c.in_ok-term.ensures.bound ∙ c.loop-number.invariant.kept;
     }
