@@ -1,40 +1,8 @@
 -- What is found of a replica, by the stages of the code.
-use Rattle.std.proofs.Common.{
-  ◌≡◌,
-  ◌⊎◌,
-  inl,
-  inr,
-  ℕ,
-  ◌≤◌,
-  ◌<◌,
-  Bool,
-  true,
-  false,
-  ◌&&◌,
-  List,
-  [],
-  ◌∷◌,
-  length,
-  map,
-  get_or,
-  Option,
-  Some,
-  None,
-  Result,
-  Ok,
-  Err,
-  refl,
-  sym,
-  ◌∙◌,
-  ap,
-  subst,
-  arith,
-  IsTrue,
-  IfOk,
-}
-use Rattle.std.specs.Prelude.{slice_get, reverse, ◌↔◌}
+use Rattle.std.proofs.Common.{◌≡◌, ◌⊎◌, inl, inr, ℕ, ◌≤◌, ◌<◌, Bool, true, false, ◌&&◌, List, [], ◌∷◌, length, map, get_or, Option, Some, None, Result, Ok, refl, sym, ◌∙◌, ap, subst, arith}
+use Rattle.std.specs.Prelude.{slice_get, reverse}
 use Rattle.std.specs.Option.{option_map}
-use Rattle.std.proofs.lemmas.Bool.{false≢true, false_from_ne_true}
+use Rattle.std.proofs.lemmas.Bool.{false≢true}
 use Rattle.std.proofs.lemmas.Bool.Decides.{same_from_decides, Decides-like}
 use Rattle.std.proofs.lemmas.Option.{same_Some}
 use Rattle.px_base.specs.declared.head.Head.{Head}
@@ -43,7 +11,6 @@ use Rattle.px_base.specs.PropSets.{set_of}
 use Rattle.px_base.specs.declared.prop.Prop.TheVariants.{Comm, Assoc, Idem}
 use Rattle.px_base.specs.declared.raw.RawFun.{RawFun}
 use Rattle.px_base.specs.declared.raw.RawReplica.{RawReplica}
-use Rattle.px_base.specs.declared.limits.TheConstants.{TYPE_NODES, TYPE_DEPTH}
 use Rattle.px_terms.specs.declared.types.Ty.{Ty}
 use Rattle.px_terms.specs.declared.types.Ty.TheVariants as type
 use Rattle.px_terms.specs.declared.types.FnType.{FnType}
@@ -52,9 +19,9 @@ use Rattle.px_terms.specs.declared.term.Term.{Term}
 use Rattle.px_terms.specs.declared.program.Def as definition
 use Rattle.px_terms.specs.declared.program.ReplicaDef.{ReplicaDef}
 use Rattle.px_terms.specs.declared.program.Program.{Program}
-use Rattle.px_terms.specs.Types.{ty_size, ty_depth, ty_instance, tys_instance, fn_type_instance}
+use Rattle.px_terms.specs.Types.{ty_instance, tys_instance, fn_type_instance}
 use Rattle.px_terms.specs.Programs.{bool_type}
-use Rattle.px_terms.specs.Typing.{IsSmallMet, behind, live}
+use Rattle.px_terms.specs.Typing.{behind, live}
 use Rattle.px_types.specs.declared.ends.TypeEnd.{TypeEnd}
 use Rattle.px_types.specs.declared.ends.TypeKind.{TypeKind}
 use Rattle.px_types.specs.declared.ends.TypeKind.TheVariants.{Arity, NotJoin}
@@ -65,8 +32,6 @@ use Rattle.px_types.specs.Outcome.{Signature, signature_of, ty_found, tys_found,
 use Rattle.px_types.specs.Declarations.{with_replica, replica_env}
 use Rattle.px_types.specs.NextOutcome.{state_found, has_merge_counts, is_joining, merge_found}
 use Rattle.px_types.specs.Checkings.{AnswersAs, merge_rest}
-use Rattle.px_types.proofs.Exact.{is_of}
-use Rattle.px_types.proofs.TypesExact.{exact_type}
 use Rattle.px_types.proofs.Sameness.{decides_same}
 use Rattle.px_types.proofs.Stages.{stage, stage_fails}
 
