@@ -19,17 +19,8 @@ use Rattle.px_types.specs.Answers.{EndsAs, Answers}
 use Rattle.px_types.specs.Outcomes.{onward, needs, each}
 use Rattle.px_types.specs.Outcome.{tys_found, term_found, part_found, part_of}
 use Rattle.px_types.specs.Declarations.{with_lemma}
-use Rattle.px_types.specs.NextOutcome.{
-  Heading,
-  fn_types_found,
-  lemma_heading_found,
-  is_few,
-  assumed_found,
-  variables_found,
-  equation_found,
-  heading_env,
-  equations_found,
-}
+use Rattle.px_types.specs.NextOutcome.{Heading, fn_types_found, lemma_heading_found, is_few, assumed_found, variables_found, equation_found, heading_env}
+use Rattle.px_types.specs.NextOutcome.{equations_found}
 use Rattle.px_types.specs.Checkings.{heading_of}
 use Rattle.px_types.proofs.Stages.{stage, stage_fails}
 

@@ -14,19 +14,8 @@ use Rattle.px_types.specs.declared.ends.TypeEnd.{TypeEnd}
 use Rattle.px_types.specs.Faults.{Broken}
 use Rattle.px_types.specs.Answers.{Answers}
 use Rattle.px_types.specs.Declarations.{with_obligations, obligations_of}
-use Rattle.px_types.specs.NextOutcome.{
-  datatype_found,
-  signature_found,
-  body_found,
-  claim_found,
-  variables_found,
-  equations_found,
-  state_found,
-  merge_found,
-  checked,
-  types_found,
-  terms_found,
-}
+use Rattle.px_types.specs.NextOutcome.{datatype_found, signature_found, body_found, claim_found, variables_found, equations_found, state_found, merge_found}
+use Rattle.px_types.specs.NextOutcome.{checked, types_found, terms_found}
 use Rattle.px_types.specs.Checkings.{Takes}
 
 -- the answer of an outcome is that of the same outcome

@@ -1,29 +1,6 @@
 -- Loops over properties, and over the functions of which they are assumed.
-use Rattle.std.proofs.Common.{
-  ◌≡◌,
-  ℕ,
-  zero,
-  suc,
-  ◌+◌,
-  ◌<◌,
-  ◌≤◌,
-  List,
-  [],
-  ◌∷◌,
-  length,
-  get_or,
-  drop,
-  Option,
-  Result,
-  Ok,
-  refl,
-  sym,
-  ◌∙◌,
-  ap,
-  subst,
-  add-one,
-  drop-cons,
-}
+use Rattle.std.proofs.Common.{◌≡◌, ℕ, zero, suc, ◌+◌, ◌<◌, ◌≤◌, List, [], ◌∷◌, length, get_or, drop, Option, Result, Ok, refl, sym, ◌∙◌, ap, subst, add-one}
+use Rattle.std.proofs.Common.{drop-cons}
 use Rattle.std.specs.Prelude.{slice_get}
 use Rattle.std.specs.Option.{option_map}
 use Rattle.std.proofs.lemmas.List.{drop_all, drop-drop}

@@ -1,41 +1,10 @@
 -- What is found of a replica, by the stages of the code.
-use Rattle.std.proofs.Common.{
-  ◌≡◌,
-  ◌⊎◌,
-  inl,
-  inr,
-  ℕ,
-  ◌≤◌,
-  ◌<◌,
-  Bool,
-  true,
-  false,
-  ◌&&◌,
-  List,
-  [],
-  ◌∷◌,
-  length,
-  map,
-  get_or,
-  Option,
-  Some,
-  None,
-  Result,
-  Ok,
-  Err,
-  refl,
-  sym,
-  ◌∙◌,
-  ap,
-  subst,
-  arith,
-  IsTrue,
-  IfOk,
-}
-use Rattle.std.specs.Prelude.{slice_get, reverse, ◌↔◌}
+use Rattle.std.proofs.Common.{◌≡◌, ◌⊎◌, inl, inr, ℕ, ◌≤◌, ◌<◌, Bool, true, false, ◌&&◌, refl, sym, ◌∙◌, ap, subst, arith}
+use Rattle.std.proofs.Common.{List, [], ◌∷◌, length, map, get_or, Option, Some, None, Result, Ok}
+use Rattle.std.specs.Prelude.{slice_get, reverse}
 use Rattle.std.specs.Option.{option_map}
-use Rattle.std.proofs.lemmas.Bool.{false≢true, false_from_ne_true}
-use Rattle.std.proofs.lemmas.Bool.Decides.{same_from_decides}
+use Rattle.std.proofs.lemmas.Bool.{false≢true}
+use Rattle.std.proofs.lemmas.Bool.Decides.{same_from_decides, Decides-like}
 use Rattle.std.proofs.lemmas.Option.{same_Some}
 use Rattle.px_base.specs.declared.head.Head.{Head}
 use Rattle.px_base.specs.declared.head.Head.TheVariants.{Def, Wle, Weq, FnVar}
@@ -43,7 +12,6 @@ use Rattle.px_base.specs.PropSets.{set_of}
 use Rattle.px_base.specs.declared.prop.Prop.TheVariants.{Comm, Assoc, Idem}
 use Rattle.px_base.specs.declared.raw.RawFun.{RawFun}
 use Rattle.px_base.specs.declared.raw.RawReplica.{RawReplica}
-use Rattle.px_base.specs.declared.limits.TheConstants.{TYPE_NODES, TYPE_DEPTH}
 use Rattle.px_terms.specs.declared.types.Ty.{Ty}
 use Rattle.px_terms.specs.declared.types.Ty.TheVariants as type
 use Rattle.px_terms.specs.declared.types.FnType.{FnType}
@@ -52,9 +20,9 @@ use Rattle.px_terms.specs.declared.term.Term.{Term}
 use Rattle.px_terms.specs.declared.program.Def as definition
 use Rattle.px_terms.specs.declared.program.ReplicaDef.{ReplicaDef}
 use Rattle.px_terms.specs.declared.program.Program.{Program}
-use Rattle.px_terms.specs.Types.{ty_size, ty_depth, ty_instance, tys_instance, fn_type_instance}
+use Rattle.px_terms.specs.Types.{ty_instance, tys_instance, fn_type_instance}
 use Rattle.px_terms.specs.Programs.{bool_type}
-use Rattle.px_terms.specs.Typing.{IsSmallMet, behind, live}
+use Rattle.px_terms.specs.Typing.{behind, live}
 use Rattle.px_types.specs.declared.ends.TypeEnd.{TypeEnd}
 use Rattle.px_types.specs.declared.ends.TypeKind.{TypeKind}
 use Rattle.px_types.specs.declared.ends.TypeKind.TheVariants.{Arity, NotJoin}
@@ -65,14 +33,8 @@ use Rattle.px_types.specs.Outcome.{Signature, signature_of, ty_found, tys_found,
 use Rattle.px_types.specs.Declarations.{with_replica, replica_env}
 use Rattle.px_types.specs.NextOutcome.{state_found, has_merge_counts, is_joining, merge_found}
 use Rattle.px_types.specs.Checkings.{AnswersAs, merge_rest}
-use Rattle.px_types.proofs.Exact.{is_of}
-use Rattle.px_types.proofs.TypesExact.{exact_type}
 use Rattle.px_types.proofs.Sameness.{decides_same}
 use Rattle.px_types.proofs.Stages.{stage, stage_fails}
-
--- a written type that is right is within the limits
-pub found_small : (P : Program) (r : RawReplica) (T : Ty) → ty_found P 0 r.state ≡ Ok T → IsSmallMet T
-found_small P r T is = (is_of (exact_type P 0 r.state) T is).written.small
 
 -- where a replica stands, behind so many obligations and with these variables
 abbrev pub replica_stands : Program → List FnType → List Ty → ℕ → Env
@@ -216,18 +178,12 @@ words_no_join state known = go (same type.Word state) (same bool_type state) ref
     go true false e f = refl
     go true true e f = absurd (no state ((decides_same type.Word state).0 e) ((decides_same bool_type state).0 f))
 
--- the type is not made where it would be over the limits, since the other is within them
-pub over_is_other : (T whole : Ty) (within : Bool) → IsSmallMet whole → within ≡ false →
-    (IsTrue within ↔ ((ty_size T ≤ TYPE_NODES) × (ty_depth T ≤ TYPE_DEPTH))) → false ≡ same T whole
-over_is_other T whole within small over tells =
-    sym (false_from_ne_true (same T whole) (λ e.
-    let is : T ≡ whole = (decides_same T whole).0 e in
-    let fits : within ≡ true = tells.1 (subst (λ (U : Ty). (ty_size U ≤ TYPE_NODES) × (ty_depth U ≤ TYPE_DEPTH)) (sym is) (small.nodes, small.depth)) in
-    false≢true (sym over ∙ fits)))
+-- which of two types is compared with the other does not matter
+same_turned : (T U : Ty) → same T U ≡ same U T
+same_turned T U = same_from_decides (same T U) (same U T) (decides_same T U) (Decides-like (same U T) sym sym (decides_same U T))
 
-pub made_is_same : (T made whole : Ty) (r : Bool) → made ≡ T → (IsTrue r ↔ (made ≡ whole)) → r ≡ same T whole
-made_is_same T made whole r is tells =
-    same_from_decides r (same T whole) (λ e. sym is ∙ tells.0 e, λ e. tells.1 (is ∙ e)) (decides_same T whole)
+pub turned : (T U : Ty) (r : Bool) → r ≡ same T U → r ≡ same U T
+turned T U r e = e ∙ same_turned T U
 
 -- two items
 pub two_items : {X : Type 0} (xs looked : List X) (a b : X) → looked ≡ xs → 2 ≤ length looked → length looked < 3 → a ≡ get_or looked 0 a →
@@ -397,10 +353,6 @@ module _ (E : Env) (h : Head) (types : List Ty) (s : Signature) (is : signature_
     not_joining n D e at says fails =
         fails ∙ ap (λ (b : Bool). b && has_wanted E h (set_of (Comm ∷ Assoc ∷ Idem ∷ []))) (sym fails) ∙ joining_is n D
         (has_wanted E h (set_of (Comm ∷ Assoc ∷ Idem ∷ []))) e at says refl
-
-pub ok_as : {E : Type 0} (r : Result Bool E) (x y : Bool) → x ≡ y → IfOk r (λ (b : Bool). b ≡ x) → IfOk r (λ (b : Bool). b ≡ y)
-ok_as (Ok b) x y e is = is ∙ e
-ok_as (Err end) x y e is = is
 
 -- so many obligations stand before it
 pub seen_as : (P : Program) (r : RawReplica) (T : Ty) (from : Term) (types : List Ty) (funs : List Fun) (count : ℕ) {out : Result Program Broken} →

@@ -1,7 +1,6 @@
 //! Replicas.
-ghost use Rattle.std.specs.Prelude.{◌≡◌, ◌<◌, ◌^◌, ◌&&◌, ◌∷◌, [], length, Some, IfOk, OnErr};
+ghost use Rattle.std.specs.Prelude.{◌≡◌, ◌<◌, ◌^◌, ◌&&◌, ◌∷◌, [], length, Some, OnErr};
 ghost use Rattle.px_terms.specs.Types.{ty_instance, tys_instance};
-ghost use Rattle.px_terms.specs.Typing.{IsSmallMet};
 ghost use Rattle.px_types.specs.Answers.{Answers};
 ghost use Rattle.px_types.specs.Checkings.{AnswersAs, AreFew, AreNotes, Takes, merge_rest};
 ghost use Rattle.px_types.specs.Declarations.{replica_env, with_replica};
@@ -9,17 +8,14 @@ ghost use Rattle.px_types.specs.Envs.{env_of};
 ghost use Rattle.px_types.specs.NextOutcome.{checked, has_merge_counts, is_joining, merge_found, state_found};
 ghost use Rattle.px_types.specs.Outcome.{Signature, arguments_found, same, same_all, signature_of};
 
+use crate::alike::is_instance;
 use crate::arguments::type_arguments;
 use crate::ends::{TypeEnd, TypeKind};
 use crate::env::{Env, Stand};
 use crate::said::knows_all;
 use crate::terms::type_part;
 use crate::types::{need, type_ty, type_tys};
-use px_terms::limits::{TYPE_DEPTH, TYPE_NODES};
-use px_terms::{
-    Def, Fun, Head, NoMemory, Program, PropSet, RawReplica, ReplicaDef, Term, Ty,
-    instance_is_within, instance_of_ty, same_ty,
-};
+use px_terms::{Def, Fun, Head, Program, PropSet, RawReplica, ReplicaDef, Term, Ty};
 use sqlite_items::{Items, at};
 use std::alloc::Global;
 
@@ -91,7 +87,6 @@ fn type_replica(
 fn type_merge(env: &Env<'_>, raw: &RawReplica, state: Ty, from: Term) -> Result<ReplicaDef, TypeEnd>
     requires few { length env.now.program.now.declared < 2 ^ 32 }
     requires stands { env_of env.now ≡ replica_env env.now.program.now }
-    requires small { IsSmallMet state }
     ensures { AnswersAs (with_replica env.now.program.now) (merge_rest env.now.program.now raw.now state from) result }
 {
     let alloc = env.alloc;
@@ -99,7 +94,7 @@ fn type_merge(env: &Env<'_>, raw: &RawReplica, state: Ty, from: Term) -> Result<
     need(has_counts(program, raw), TypeKind::Arity, raw.merge.at)?;
     let types = type_tys(alloc, program, 0, &raw.merge.types)?;
     let funs = type_given(env, raw, &types)?;
-    let joins = is_join(env, raw.merge.head, &types, &state)?;
+    let joins = is_join(env, raw.merge.head, &types, &state);
     need(joins, TypeKind::NotJoin, raw.merge.at)?;
     Ok(ReplicaDef {
         state,
@@ -146,50 +141,32 @@ fn type_given(env: &Env<'_>, raw: &RawReplica, types: &Items<Ty>) -> Result<Item
 }
 
 /// Whether what is called takes two states and gives one, at these types, and is known to be commutative, associative and
-/// idempotent. It takes memory.
-fn is_join(env: &Env<'_>, head: Head, types: &Items<Ty>, state: &Ty) -> Result<bool, NoMemory>
-    requires stands { env_of env.now ≡ replica_env env.now.program.now }
-    requires small { IsSmallMet state.now }
-    ensures { (s : Signature) → signature_of (env_of env.now) head types.now ≡ Some s → IfOk result (λ joins. joins ≡ is_joining env.now.program.now head s state.now) }
+/// idempotent. It takes no memory.
+fn is_join(env: &Env<'_>, head: Head, types: &Items<Ty>, state: &Ty) -> bool
+    requires { env_of env.now ≡ replica_env env.now.program.now }
+    ensures { (s : Signature) → signature_of (env_of env.now) head types.now ≡ Some s → result ≡ is_joining env.now.program.now head s state.now }
 {
     match head {
         Head::Def(number) => match at(env.program.defs.as_slice(), number as usize) {
-            Some(def) => {
-                let joins = joins_states(env.alloc, def, types, state)?;
-                Ok(joins && knows_all(env, head, JOINING))
-            }
-            None => Ok(false),
+            Some(def) => joins_states(def, types, state) && knows_all(env, head, JOINING),
+            None => false,
         },
-        Head::Wle | Head::Weq | Head::FnVar(_) => Ok(false),
+        Head::Wle | Head::Weq | Head::FnVar(_) => false,
     }
 }
 
-/// Whether the definition takes two states and gives one, at these types. It takes memory.
-fn joins_states(alloc: Global, def: &Def, types: &Items<Ty>, state: &Ty) -> Result<bool, NoMemory>
-    requires { IsSmallMet state.now }
-    ensures { IfOk result (λ joins. joins ≡ (same_all (tys_instance types.now def.now.params) (state.now ∷ state.now ∷ []) && same (ty_instance types.now def.now.result) state.now)) }
+/// Whether the definition takes two states and gives one, at these types. It takes no memory.
+fn joins_states(def: &Def, types: &Items<Ty>, state: &Ty) -> bool
+    ensures { result ≡ (same_all (tys_instance types.now def.now.params) (state.now ∷ state.now ∷ []) && same (ty_instance types.now def.now.result) state.now) }
 {
     let [first, second] = def.params.as_slice() else {
-        return Ok(false);
+        return false;
     };
-    if !is_instance(alloc, first, types, state)? {
-        return Ok(false);
+    if !is_instance(state, first, types) {
+        return false;
     }
-    if !is_instance(alloc, second, types, state)? {
-        return Ok(false);
+    if !is_instance(state, second, types) {
+        return false;
     }
-    is_instance(alloc, &def.result, types, state)
-}
-
-/// Whether the type with these types put in is this one, which is within the limits. It is made only where it is within them
-/// too. It takes memory.
-fn is_instance(alloc: Global, ty: &Ty, types: &Items<Ty>, whole: &Ty) -> Result<bool, NoMemory>
-    requires { IsSmallMet whole.now }
-    ensures { IfOk result (λ is. is ≡ same (ty_instance types.now ty.now) whole.now) }
-{
-    if !instance_is_within(ty, types.as_slice(), TYPE_NODES, TYPE_DEPTH) {
-        return Ok(false);
-    }
-    let made = instance_of_ty(alloc, ty, types.as_slice())?;
-    Ok(same_ty(&made, whole))
+    is_instance(state, &def.result, types)
 }

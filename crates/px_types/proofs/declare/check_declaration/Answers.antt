@@ -1,16 +1,5 @@
-use Rattle.px_types.proofs.KindSteps.{
-  answers_as,
-  datatype_types,
-  no_datatype_types,
-  definition_types,
-  no_definition_types,
-  claim_types,
-  no_claim_types,
-  lemma_types,
-  no_lemma_types,
-  replica_types,
-  no_replica_types,
-}
+use Rattle.px_types.proofs.KindSteps.{answers_as, datatype_types, no_datatype_types, definition_types, no_definition_types, claim_types, no_claim_types}
+use Rattle.px_types.proofs.KindSteps.{lemma_types, no_lemma_types, replica_types, no_replica_types}
 use Rattle.px_types.proofs.declare.check_declaration.Goals as goal
 
 pub returns-in-Some-clause-answers : goal.returns-in-Some-clause-answers

@@ -1,17 +1,6 @@
 use Rattle.px_types.proofs.NoteLemmas.{notes_kept}
-use Rattle.px_types.proofs.KindSteps.{
-  takes_as,
-  datatype_terms,
-  no_datatype_terms,
-  definition_terms,
-  no_definition_terms,
-  claim_terms,
-  no_claim_terms,
-  lemma_terms,
-  no_lemma_terms,
-  replica_terms,
-  no_replica_terms,
-}
+use Rattle.px_types.proofs.KindSteps.{takes_as, datatype_terms, no_datatype_terms, definition_terms, no_definition_terms, claim_terms, no_claim_terms}
+use Rattle.px_types.proofs.KindSteps.{lemma_terms, no_lemma_terms, replica_terms, no_replica_terms}
 use Rattle.px_types.proofs.declare.take_declaration.Goals as goal
 
 pub returns-in-Some-clause-notes : goal.returns-in-Some-clause-notes

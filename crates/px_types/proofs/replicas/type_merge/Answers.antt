@@ -32,8 +32,8 @@ returns-in_err-need-2 c =
     c.in_ok-types.types c.in_ok-types.ensures E c.requires.stands in
     ends_as _ _ c.from_residual-in_err-need-2.result c.in_err-need-2.field-0.0 c.from_residual-in_err-need-2.ensures.1
     (join_fails P c.args.raw.now c.args.state c.args.from c.has_counts.result c.in_ok-need.field-0 c.has_counts.ensures c.in_ok-need.ensures
-    c.in_ok-types.types c.in_ok-types.ensures E c.requires.stands c.in_ok-funs.funs (c.in_ok-funs.ensures s.s s.is) c.in_ok-joins.joins
-    (c.in_ok-joins.ensures s.s s.is) c.in_err-need-2.field-0.0 c.in_err-need-2.ensures)
+    c.in_ok-types.types c.in_ok-types.ensures E c.requires.stands c.in_ok-funs.funs (c.in_ok-funs.ensures s.s s.is) c.is_join-joins.result
+    (c.is_join-joins.ensures s.s s.is) c.in_err-need-2.field-0.0 c.in_err-need-2.ensures)
 
 pub returns : goal.returns
 returns c =
@@ -43,5 +43,5 @@ returns c =
     c.in_ok-types.types c.in_ok-types.ensures E c.requires.stands in
     seen_as P c.args.raw.now c.args.state c.args.from c.in_ok-types.types c.in_ok-funs.funs c.len.result c.len.ensures
     (merge_ok P c.args.raw.now c.args.state c.args.from c.has_counts.result c.in_ok-need.field-0 c.has_counts.ensures c.in_ok-need.ensures
-    c.in_ok-types.types c.in_ok-types.ensures E c.requires.stands c.in_ok-funs.funs (c.in_ok-funs.ensures s.s s.is) c.in_ok-joins.joins
-    (c.in_ok-joins.ensures s.s s.is) c.in_ok-need-2.field-0 c.in_ok-need-2.ensures)
+    c.in_ok-types.types c.in_ok-types.ensures E c.requires.stands c.in_ok-funs.funs (c.in_ok-funs.ensures s.s s.is) c.is_join-joins.result
+    (c.is_join-joins.ensures s.s s.is) c.in_ok-need-2.field-0 c.in_ok-need-2.ensures)

@@ -1,5 +1,5 @@
 use Rattle.px_types.proofs.EndSteps.{ends_as}
-use Rattle.px_types.proofs.ReplicaSteps.{found_small, replica_stands, stands_alone, state_fails, from_fails, rest_answers}
+use Rattle.px_types.proofs.ReplicaSteps.{replica_stands, stands_alone, state_fails, from_fails, rest_answers}
 use Rattle.px_types.proofs.replicas.type_replica.Goals as goal
 
 pub returns-in_err-state : goal.returns-in_err-state
@@ -14,9 +14,6 @@ returns-in_err-from c =
     (from_fails P c.args.raw.now c.in_ok-state.state c.in_ok-state.ensures (replica_stands P c.new-funs.result c.new-vars.result c.len.result)
     (stands_alone P c.new-funs.result c.new-vars.result c.len.result c.new-funs.ensures c.new-vars.ensures c.len.ensures) c.new-bound.result
     c.new-bound.ensures c.in_err-from.field-0.0 c.in_err-from.ensures.answers)
-
-pub type_merge-requires-clause-small : goal.type_merge-requires-clause-small
-type_merge-requires-clause-small c = found_small c.args.program.now c.args.raw.now c.in_ok-state.state c.in_ok-state.ensures
 
 pub returns : goal.returns
 returns c =
