@@ -1,17 +1,15 @@
 -- The type that is found of a term is exactly the one that it has.
-use Rattle.std.proofs.Common.{◌≡◌, ◌↔◌, ℕ, zero, suc, ◌+◌, ◌<◌, ◌^◌, Bool, true, false, ◌&&◌, List, [], ◌∷◌, ◌++◌, length, map, reverse, Option, Some, None, refl, sym, ◌∙◌, ap, subst, Decides, arith}
-use Rattle.std.specs.Prelude.{slice_get, ◌==◌}
-use Rattle.std.specs.List.{All, list_all}
-use Rattle.std.specs.Option.{IsSomeAnd, option_map, option_and_then}
+use Rattle.std.proofs.Common.{◌≡◌, ℕ, ◌<◌, ◌^◌, Bool, true, false, ◌&&◌, List, [], ◌∷◌, length, map, Option, Some, None, refl, sym, ◌∙◌, ap, subst, Decides, arith}
+use Rattle.std.specs.Prelude.{slice_get}
+use Rattle.std.specs.List.{list_all}
+use Rattle.std.specs.Option.{IsSomeAnd, option_and_then}
 use Rattle.std.proofs.lemmas.Bool.{false≢true}
 use Rattle.std.proofs.lemmas.List.{length-map}
 use Rattle.std.proofs.lemmas.Option.{same_Some}
 use Rattle.std.proofs.lemmas.Bool.Decides.{Decides-eqb, Decides-ltb, Decides-and, Decides-like}
-use Rattle.px_base.specs.declared.prop.Prop.{Prop}
 use Rattle.px_base.specs.declared.head.Head.{Head}
 use Rattle.px_base.specs.declared.head.Head.TheVariants.{Def, Wle, Weq, FnVar}
-use Rattle.px_base.specs.PropSets.{HasProp}
-use Rattle.px_terms.specs.declared.types.Ty.{Ty, out-Ty, roll-Ty, out-roll-Ty, map-Ty, fold_out-Ty}
+use Rattle.px_terms.specs.declared.types.Ty.{Ty, out-Ty, map-Ty, fold_out-Ty}
 use Rattle.px_terms.specs.declared.types.Ty.TheVariants as type
 use Rattle.px_terms.specs.declared.types.Ty.TheOpen.{Ty-F}
 use Rattle.px_terms.specs.declared.types.FnType.{FnType}
@@ -23,12 +21,11 @@ use Rattle.px_terms.specs.declared.program.DataDef.{DataDef}
 use Rattle.px_terms.specs.declared.program.Program.{Program}
 use Rattle.px_terms.specs.declared.sequent.Context.{Context}
 use Rattle.px_terms.specs.Types.{tys_instance}
-use Rattle.px_terms.specs.Programs.{constructor_at}
 use Rattle.px_terms.specs.Typing.{anywhere, IsType, IsTypeLayer, AreTypes, IsMet, IsFunction, IsArgument, AreArguments, IsKnown, MayPass, MayCall, HasTypeLayer, HaveTypes, HaveTypesInArms}
 use Rattle.px_terms.specs.Typing as typing
-use Rattle.px_types.specs.Faults.{Env, Counts, counts_of}
-use Rattle.px_types.specs.Outcome.{passes, same, agrees, type_of_variable, Signature, signature_of, is_alike, has_wanted}
-use Rattle.px_types.specs.TypeOf.{HasConstructors, at_no_place, followed, when, takes, is_type_step, is_type, are_types, is_datatype, has_type_count, has_types, callee_found, argument_fits, arguments_fit, Found, parts_have, arms_have, literal_type, fields_found, con_type, call_type, constructors_found, match_type, type_found, TypesAreExact}
+use Rattle.px_types.specs.Faults.{Counts, counts_of}
+use Rattle.px_types.specs.Outcome.{agrees, type_of_variable, Signature}
+use Rattle.px_types.specs.TypeOf.{HasConstructors, at_no_place, followed, when, takes, is_type_step, is_type, are_types, is_datatype, has_type_count, has_types, callee_found, argument_fits, arguments_fit, parts_have, arms_have, literal_type, fields_found, con_type, call_type, constructors_found, match_type, type_found, TypesAreExact}
 use Rattle.px_types.proofs.Exact.{Every}
 use Rattle.px_types.proofs.Known.{decides_passes, decides_wanted}
 use Rattle.px_types.proofs.Sameness.{ArgsHold, ty_induction, every_ty, decides_same}
@@ -107,7 +104,7 @@ module _ (P : Program) (tparams : ℕ) where
   decides_layer (Ty-F.Con d args) all =
       let counts : Decides (takes P d (length (map (is_type P tparams) args))) (TakesSo d args) = rw (length-map {A = Ty} {B = Bool}) (decides_takes d args) in
       let each : Decides (list_all (λ (b : Bool). b) (map (is_type P tparams) args)) (AreTypes P tparams args) =
-              subst (λ b. Decides b (AreTypes P tparams args)) (sym (all_of_map args)) (decides_each args all) in
+      subst (λ b. Decides b (AreTypes P tparams args)) (sym (all_of_map args)) (decides_each args all) in
       Decides-like _ (λ h. con_of d args h.0 h.1) (λ h. of_con h) (Decides-and _ _ counts each)
 
   pub decides_type : (T : Ty) → TypeTells T
@@ -130,7 +127,9 @@ module _ (P : Program) (context : Context) where
 
   decides_gives_types : (f : Fun) → Decides (has_types (at_no_place P context) f) (GivesTypes f)
   unfolding has_types has_type_count
-  decides_gives_types f = Decides-and _ _ (decides_passes _ (λ (c : Counts). c.types ≡ length f.types) (λ c. Decides-eqb c.types (length f.types)) (counts_of (at_no_place P context) f.head)) (decides_types P context.tparams f.types)
+  decides_gives_types f = Decides-and _ _
+      (decides_passes _ (λ (c : Counts). c.types ≡ length f.types) (λ c. Decides-eqb c.types (length f.types)) (counts_of (at_no_place P context) f.head))
+      (decides_types P context.tparams f.types)
 
   pub callee_is : (f : Fun) (s : Signature) → callee_found (at_no_place P context) f ≡ Some s → IsFunction P context f s.takes s.params s.result
   unfolding callee_found
@@ -139,11 +138,14 @@ module _ (P : Program) (context : Context) where
       let gives = (decides_gives_types f).0 (when_true _ _ one.first) in
       function_of (at_no_place P context) f.head f.types s gives.0 gives.1 one.then_is
 
-  pub callee_there : (f : Fun) (takes : List FnType) (params : List Ty) (T : Ty) → IsFunction P context f takes params T → callee_found (at_no_place P context) f ≡ Some (record { takes = takes; params = params; result = T })
+  pub callee_there : (f : Fun) (takes : List FnType) (params : List Ty) (T : Ty) → IsFunction P context f takes params T → callee_found
+      (at_no_place P context) f ≡ Some (record { takes = takes; params = params; result = T })
   unfolding callee_found
   callee_there f takes params T is =
-      let count : IsSomeAnd (counts_of (at_no_place P context) f.head) (λ (c : Counts). c.types ≡ length f.types) = rw (function_counts (at_no_place P context) is) refl in
-      then_follows _ _ tt _ (true_when _ ((decides_gives_types f).1 (count, function_types (at_no_place P context) is))) (function_is (at_no_place P context) is)
+      let count : IsSomeAnd (counts_of (at_no_place P context) f.head) (λ (c : Counts). c.types ≡ length f.types) =
+      rw (function_counts (at_no_place P context) is) refl in
+      then_follows _ _ tt _ (true_when _ ((decides_gives_types f).1 (count, function_types (at_no_place P context) is)))
+      (function_is (at_no_place P context) is)
 
   may_pass_here : (h : Head) → MayPass P anywhere h
   may_pass_here (Def n) = tt
@@ -157,11 +159,12 @@ module _ (P : Program) (context : Context) where
   may_call_here Weq types = tt
   may_call_here (FnVar i) types = tt
 
-  function_alike : (f : Fun) (own : Signature) (wanted : FnType) → IsAlike own wanted → IsFunction P context f own.takes own.params own.result → IsFunction P context f [] wanted.params wanted.result
+  function_alike : (f : Fun) (own : Signature) (wanted : FnType) → IsAlike own wanted → IsFunction P context f own.takes own.params own.result →
+      IsFunction P context f [] wanted.params wanted.result
   function_alike f own wanted alike has =
       subst (λ (T : Ty). IsFunction P context f [] wanted.params T) alike.result
-        (subst (λ (params : List Ty). IsFunction P context f [] params own.result) alike.params
-          (subst (λ (takes : List FnType). IsFunction P context f takes own.params own.result) alike.takes has))
+      (subst (λ (params : List Ty). IsFunction P context f [] params own.result) alike.params
+      (subst (λ (takes : List FnType). IsFunction P context f takes own.params own.result) alike.takes has))
 
   argument_is : (f : Fun) (wanted : FnType) (u : Unit {0}) → argument_fits (at_no_place P context) f wanted ≡ Some u → IsArgument P anywhere context f wanted
   unfolding argument_fits
@@ -183,12 +186,14 @@ module _ (P : Program) (context : Context) where
   argument_there : (f : Fun) (wanted : FnType) → IsArgument P anywhere context f wanted → argument_fits (at_no_place P context) f wanted ≡ Some tt
   unfolding argument_fits
   argument_there f wanted a =
-      let alike : IsAlike (record { takes = []; params = wanted.params; result = wanted.result }) wanted = record { takes = refl; params = refl; result = refl } in
+      let alike : IsAlike (record { takes = []; params = wanted.params; result = wanted.result }) wanted =
+      record { takes = refl; params = refl; result = refl } in
       then_follows _ _ _ _ (callee_there f [] wanted.params wanted.result a.function)
-        (then_follows _ _ tt _ (true_when _ ((decides_alike (record { takes = []; params = wanted.params; result = wanted.result }) wanted).1 alike))
-          (true_when _ ((decides_wanted (at_no_place P context) f.head wanted.props).1 a.properties)))
+      (then_follows _ _ tt _ (true_when _ ((decides_alike (record { takes = []; params = wanted.params; result = wanted.result }) wanted).1 alike))
+      (true_when _ ((decides_wanted (at_no_place P context) f.head wanted.props).1 a.properties)))
 
-  arguments_are : (fs : List Fun) (takes : List FnType) (u : Unit {0}) → arguments_fit (at_no_place P context) fs takes ≡ Some u → AreArguments P anywhere context fs takes
+  arguments_are : (fs : List Fun) (takes : List FnType) (u : Unit {0}) → arguments_fit (at_no_place P context) fs takes ≡ Some u →
+      AreArguments P anywhere context fs takes
   unfolding arguments_fit
   arguments_are [] [] u e = typing.none
   arguments_are [] (wanted ∷ takes) u e = absurd cc
@@ -211,7 +216,8 @@ module _ (P : Program) (context : Context) where
   abbrev IsRight : Term → Type 0
   IsRight t = (bound : List Ty) (T : Ty) → type_found (at_no_place P context) t bound ≡ Some T → Has bound t T
 
-  parts_are : (bound : List Ty) (ts : List Term) (types : List Ty) (u : Unit {0}) → Every IsRight ts → parts_have bound (map (type_found (at_no_place P context)) ts) types ≡ Some u → HaveTypes P anywhere context bound ts types
+  parts_are : (bound : List Ty) (ts : List Term) (types : List Ty) (u : Unit {0}) → Every IsRight ts →
+      parts_have bound (map (type_found (at_no_place P context)) ts) types ≡ Some u → HaveTypes P anywhere context bound ts types
   unfolding parts_have
   parts_are bound [] [] u all e = typing.none
   parts_are bound [] (T ∷ types) u all e = absurd cc
@@ -241,7 +247,8 @@ module _ (P : Program) (context : Context) where
   agree_last None T e = tt
   agree_last (Some U) T e = cc
 
-  arms_are : (bound types : List Ty) (before : Option Ty) (cons : List ConDef) (ts : List Term) (T : Ty) → Every IsRight ts → arms_have bound types before cons (map (type_found (at_no_place P context)) ts) ≡ Some T → ArmsAre bound types before cons ts T
+  arms_are : (bound types : List Ty) (before : Option Ty) (cons : List ConDef) (ts : List Term) (T : Ty) → Every IsRight ts →
+      arms_have bound types before cons (map (type_found (at_no_place P context)) ts) ≡ Some T → ArmsAre bound types before cons ts T
   unfolding arms_have
   arms_are bound types before [] [] T all e = record { agree = agree_last before T e; have = typing.no_arm }
   arms_are bound types before [] (t ∷ ts) T all e = absurd cc
@@ -263,7 +270,8 @@ module _ (P : Program) (context : Context) where
       go None e = absurd cc
       go (Some slot) e = ap Some e
 
-  layer_right : (y : Term-F Term) → PartsHold IsRight y → (bound : List Ty) (T : Ty) → layer_type (at_no_place P context) y bound ≡ Some T → HasTypeLayer P anywhere context bound y T
+  layer_right : (y : Term-F Term) → PartsHold IsRight y → (bound : List Ty) (T : Ty) → layer_type (at_no_place P context) y bound ≡ Some T →
+      HasTypeLayer P anywhere context bound y T
   unfolding literal_type fields_found con_type call_type constructors_found match_type
   layer_right (Term-F.Free n) all bound T e = typing.free (live_type n T e) tt
   layer_right (Term-F.Bound n) all bound T e = typing.bound e tt
@@ -280,7 +288,8 @@ module _ (P : Program) (context : Context) where
       let fields_are : tys_instance types c.fields ≡ one.x = same_Some _ _ four.then_is in
       let is : type.Con d types ≡ T = same_Some _ _ two.then_is in
       let layer : IsTypeLayer P context.tparams (Ty-F.Con d types) = (decides_datatype P context.tparams d types).0 (when_true _ _ three.first) in
-      let is_type : IsType P context.tparams T = subst (IsType P context.tparams) is (subst (IsTypeLayer P context.tparams) (sym (type.outs-Con d types)) layer) in
+      let is_type : IsType P context.tparams T =
+      subst (IsType P context.tparams) is (subst (IsTypeLayer P context.tparams) (sym (type.outs-Con d types)) layer) in
       typing.con four.first is_type (sym is) tt (subst (HaveTypes P anywhere context bound fields) (sym fields_are) (parts_are bound fields _ _ all two.first))
   layer_right (Term-F.Call f funs args) all bound T e =
       let one = through _ _ T e in
@@ -288,7 +297,8 @@ module _ (P : Program) (context : Context) where
       let three = through _ _ T two.then_is in
       let s : Signature = one.x in
       let is : s.result ≡ T = same_Some _ _ three.then_is in
-      typing.call (subst (IsFunction P context f s.takes s.params) is (callee_is P context f s one.first)) (may_call_here P context f.head f.types) (λ k d below. tt) tt (arguments_are P context funs s.takes _ two.first) (parts_are bound args s.params _ all three.first)
+      typing.call (subst (IsFunction P context f s.takes s.params) is (callee_is P context f s one.first)) (may_call_here P context f.head f.types)
+      (λ k d below. tt) tt (arguments_are P context funs s.takes _ two.first) (parts_are bound args s.params _ all three.first)
   layer_right (Term-F.Match on d types arms) (right, all) bound T e =
       let one = through _ _ T e in
       let two = through _ _ T one.then_is in
@@ -299,7 +309,8 @@ module _ (P : Program) (context : Context) where
       let same_cons : D.cons ≡ two.x = same_Some _ _ four.then_is in
       let is : one.x ≡ type.Con d types = (decides_same one.x (type.Con d types)).0 (when_true _ _ three.first) in
       let have : HaveTypesInArms P anywhere context bound types two.x arms T = (arms_are bound types None two.x arms T all two.then_is).have in
-      typing.choose (right bound one.x one.first) is four.first (subst (λ cons. HaveTypesInArms P anywhere context bound types cons arms T) (sym same_cons) have)
+      typing.choose (right bound one.x one.first) is four.first
+      (subst (λ cons. HaveTypesInArms P anywhere context bound types cons arms T) (sym same_cons) have)
 
   pub is_right : (t : Term) → IsRight t
   is_right = term_induction IsRight (λ t all bound T e. layer_right (out-Term t) all bound T (sym (type_found_is (at_no_place P context) t bound) ∙ e))
@@ -323,39 +334,44 @@ module _ (P : Program) (context : Context) where
   starts_some [] T h = absurd (omega arith)
   starts_some (c ∷ cons) T h = tt
 
-  by_layer : (t : Term) (bound : List Ty) (T : Ty) → layer_type (at_no_place P context) (out-Term t) bound ≡ Some T → type_found (at_no_place P context) t bound ≡ Some T
+  by_layer : (t : Term) (bound : List Ty) (T : Ty) → layer_type (at_no_place P context) (out-Term t) bound ≡ Some T →
+      type_found (at_no_place P context) t bound ≡ Some T
   by_layer t bound T e = type_found_is (at_no_place P context) t bound ∙ e
 
   -- Where each datatype has a constructor, the type that a term has is found.
   module _ (some : HasConstructors P) where
     mutual
       unfolding literal_type fields_found con_type call_type constructors_found match_type parts_have arms_have
-      layer_there : {bound : List Ty} {y : Term-F Term} {T : Ty} → HasTypeLayer P anywhere context bound y T → layer_type (at_no_place P context) y bound ≡ Some T
+
+      layer_there : {bound : List Ty} {y : Term-F Term} {T : Ty} → HasTypeLayer P anywhere context bound y T →
+          layer_type (at_no_place P context) y bound ≡ Some T
       layer_there (typing.free stands met) = rw stands refl
       layer_there (typing.bound stands met) = stands
       layer_there (typing.lit {w = w} below is) = then_follows _ _ tt _ (true_when _ ((Decides-ltb w (2 ^ 64)).1 below)) (ap Some (sym is))
       layer_there (typing.con {d = d} {types = types} stands is_type is met have) =
           let layer : IsTypeLayer P context.tparams (Ty-F.Con d types) = subst (IsTypeLayer P context.tparams) (ap out-Ty is ∙ type.outs-Con d types) is_type in
           then_follows _ _ _ _ (then_follows _ _ tt _ (true_when _ ((decides_datatype P context.tparams d types).1 layer)) (then_follows _ _ _ _ stands refl))
-            (then_follows _ _ tt _ (parts_there have) (ap Some (sym is)))
+          (then_follows _ _ tt _ (parts_there have) (ap Some (sym is)))
       layer_there (typing.call {f = f} {takes = takes} {params = params} {T = T} function may met small arguments have) =
           then_follows _ _ (record { takes = takes; params = params; result = T }) _ (callee_there P context f takes params T function)
-            (then_follows _ _ tt _ (arguments_there P context arguments) (then_follows _ _ tt _ (parts_there have) refl))
+          (then_follows _ _ tt _ (arguments_there P context arguments) (then_follows _ _ tt _ (parts_there have) refl))
       layer_there (typing.choose {bound = bound} {on = on} {d = d} {types = types} {T = T} {U = U} {D = D} has is stands have) =
           then_follows _ _ U _ (by_layer on bound U (layer_there has))
-            (then_follows _ _ D.cons _ (then_follows _ _ tt _ (true_when _ ((decides_same U (type.Con d types)).1 is)) (then_follows _ _ D _ stands refl))
-              (arms_there None (starts_some D.cons T (some d D stands)) have))
+          (then_follows _ _ D.cons _ (then_follows _ _ tt _ (true_when _ ((decides_same U (type.Con d types)).1 is)) (then_follows _ _ D _ stands refl))
+          (arms_there None (starts_some D.cons T (some d D stands)) have))
 
-      parts_there : {bound : List Ty} {ts : List Term} {types : List Ty} → HaveTypes P anywhere context bound ts types → parts_have bound (map (type_found (at_no_place P context)) ts) types ≡ Some tt
+      parts_there : {bound : List Ty} {ts : List Term} {types : List Ty} → HaveTypes P anywhere context bound ts types →
+          parts_have bound (map (type_found (at_no_place P context)) ts) types ≡ Some tt
       parts_there typing.none = refl
       parts_there (typing.more {bound = bound} {t = t} {T = T} has have) =
           then_follows _ _ T _ (by_layer t bound T (layer_there has)) (then_follows _ _ tt _ (true_when _ ((decides_same T T).1 refl)) (parts_there have))
 
-      arms_there : {bound types : List Ty} {cons : List ConDef} {ts : List Term} {T : Ty} (before : Option Ty) → Starts before cons T → HaveTypesInArms P anywhere context bound types cons ts T → arms_have bound types before cons (map (type_found (at_no_place P context)) ts) ≡ Some T
+      arms_there : {bound types : List Ty} {cons : List ConDef} {ts : List Term} {T : Ty} (before : Option Ty) → Starts before cons T →
+          HaveTypesInArms P anywhere context bound types cons ts T → arms_have bound types before cons (map (type_found (at_no_place P context)) ts) ≡ Some T
       arms_there {T} before starts typing.no_arm = starts_last before T starts
       arms_there {T} before starts (typing.arm {bound = bound} {types = types} {c = c} {cs = cons} {body = body} met has have) =
           then_follows _ _ T _ (by_layer body _ T (layer_there has))
-            (then_follows _ _ tt _ (true_when _ (starts_agree before c cons T starts)) (arms_there (Some T) refl have))
+          (then_follows _ _ tt _ (true_when _ (starts_agree before c cons T starts)) (arms_there (Some T) refl have))
 
     pub term_there : (t : Term) (bound : List Ty) (T : Ty) → Has bound t T → type_found (at_no_place P context) t bound ≡ Some T
     term_there t bound T has = by_layer t bound T (layer_there has)

@@ -1,8 +1,6 @@
 -- What is known of a function at no place of the text, as the code finds it.
-use Rattle.std.proofs.Common.{◌≡◌, ◌↔◌, ◌⊎◌, inl, inr, ℕ, zero, suc, ◌+◌, ◌<◌, ◌≤◌, Bool, true, false, not, ◌&&◌, ◌||◌, IsTrue, List, [], ◌∷◌, ◌++◌, length, get_or, take, Option, Some, None, refl, sym, ◌∙◌, ap, subst, Decides, arith, lit<}
-use Rattle.std.specs.Prelude.{slice_get}
+use Rattle.std.proofs.Common.{◌≡◌, ◌↔◌, ◌⊎◌, inl, inr, ℕ, zero, suc, ◌+◌, ◌<◌, ◌≤◌, Bool, true, false, not, ◌&&◌, ◌||◌, IsTrue, List, [], ◌∷◌, ◌++◌, length, get_or, take, refl, sym, ◌∙◌, ap, subst, arith, lit<}
 use Rattle.std.specs.List.{list_any}
-use Rattle.std.specs.Option.{IsSomeAnd}
 use Rattle.std.proofs.lemmas.Bool.{false≢true}
 use Rattle.std.proofs.lemmas.Bool.Decides.{same_from_decides}
 use Rattle.std.proofs.lemmas.List.{take_more, take_all}
@@ -10,9 +8,8 @@ use Rattle.px_base.specs.declared.prop.Prop.{Prop}
 use Rattle.px_base.specs.declared.prop.Prop.TheVariants.{Comm, Assoc, Idem, Sel, Refl, Irrefl, Sym, Antisym, Asym, Trans, Conn}
 use Rattle.px_base.specs.declared.prop.PropSet.{PropSet}
 use Rattle.px_base.specs.declared.head.Head.{Head}
-use Rattle.px_base.specs.declared.head.Head.TheVariants.{Def, FnVar}
+use Rattle.px_base.specs.declared.head.Head.TheVariants.{Def}
 use Rattle.px_base.specs.PropSets.{prop_number, has_prop, HasProp, all_props}
-use Rattle.px_terms.specs.declared.types.FnType.{FnType}
 use Rattle.px_terms.specs.declared.program.Declared.{Declared}
 use Rattle.px_terms.specs.declared.program.Program.{Program}
 use Rattle.px_terms.specs.declared.sequent.Context.{Context}
@@ -70,7 +67,9 @@ below_next (suc k) zero h = absurd (omega arith)
 below_next (suc k) (suc i) h = elim (below_next k i (omega arith)) [ inl less ↦ inl (omega arith) | inr same ↦ inr (ap suc same) ]
 
 module _ (set wanted : PropSet) where
-  pub includes_next : (i : ℕ) (d : Prop) (r : Bool) → i < length all_props → r ≡ (has_prop wanted (get_or all_props i d) && not (has_prop set (get_or all_props i d))) → r ≡ false → IncludesSo set wanted i → IncludesSo set wanted (i + 1)
+  pub includes_next : (i : ℕ) (d : Prop) (r : Bool) → i < length all_props →
+      r ≡ (has_prop wanted (get_or all_props i d) && not (has_prop set (get_or all_props i d))) → r ≡ false → IncludesSo set wanted i →
+      IncludesSo set wanted (i + 1)
   includes_next i d r h e f so k e_ below wants = go (below_next k i below)
     where
       go : (k < i) ⊎ (k ≡ i) → HasProp set (get_or all_props k e_)
@@ -79,7 +78,8 @@ module _ (set wanted : PropSet) where
           let item : get_or all_props k e_ ≡ get_or all_props i d = ap (λ j. get_or all_props j e_) same ∙ same_item all_props i e_ d h in
           subst (HasProp set) (sym item) (neither _ _ (sym e ∙ f) (subst (HasProp wanted) item wants))
 
-  pub includes_fails : (i : ℕ) (d : Prop) (r : Bool) → r ≡ (has_prop wanted (get_or all_props i d) && not (has_prop set (get_or all_props i d))) → r ≡ true → IsTrue false ↔ ((p : Prop) → HasProp wanted p → HasProp set p)
+  pub includes_fails : (i : ℕ) (d : Prop) (r : Bool) → r ≡ (has_prop wanted (get_or all_props i d) && not (has_prop set (get_or all_props i d))) → r ≡ true →
+      IsTrue false ↔ ((p : Prop) → HasProp wanted p → HasProp set p)
   includes_fails i d r e t =
       let two = both _ _ (sym e ∙ t) in
       (λ no_truth. absurd (false≢true no_truth), λ all. absurd (false≢true (sym two.1 ∙ all (get_or all_props i d) two.0)))
@@ -111,7 +111,11 @@ module _ (set wanted : PropSet) where
   number_below Conn = lit< tt
 
   pub includes_end : (i : ℕ) → 11 ≤ i → IncludesSo set wanted i → IsTrue true ↔ ((p : Prop) → HasProp wanted p → HasProp set p)
-  includes_end i h so = (λ _ p wants. subst (HasProp set) (at_number p) (so (prop_number p) Comm (omega (arith, number_below p)) (subst (HasProp wanted) (sym (at_number p)) wants)), λ _. refl)
+  includes_end i h so = (
+    λ _ p wants. subst (HasProp set) (at_number p)
+        (so (prop_number p) Comm (omega (arith, number_below p)) (subst (HasProp wanted) (sym (at_number p)) wants)),
+    λ _. refl,
+  )
 
 -- The properties that are declared of a definition.
 abbrev pub DeclaredSo : ℕ → PropSet → List Declared → ℕ → Type 0
@@ -136,12 +140,15 @@ or_is false y = (λ h. elim h [ inl e ↦ absurd (false≢true e) | inr e ↦ e 
 pub declared_start : (n : ℕ) (set : PropSet) (declared : List Declared) → set ≡ NONE → DeclaredSo n set declared 0
 declared_start n set declared e p = (λ h. absurd (none_in p (subst (λ (s : PropSet). HasProp s p) e h)), λ h. absurd (false≢true h))
 
-pub declared_next : (n : ℕ) (set more : PropSet) (declared looked : List Declared) → looked ≡ declared → (i : ℕ) (d : Declared) → i < length looked → d ≡ get_or looked i d → IsSetOf more (λ (p : Prop). HasProp set p ⊎ IsTrue (is_property_of n p d)) → DeclaredSo n set declared i → DeclaredSo n more declared (i + 1)
+pub declared_next : (n : ℕ) (set more : PropSet) (declared looked : List Declared) → looked ≡ declared → (i : ℕ) (d : Declared) → i < length looked →
+    d ≡ get_or looked i d → IsSetOf more (λ (p : Prop). HasProp set p ⊎ IsTrue (is_property_of n p d)) → DeclaredSo n set declared i →
+    DeclaredSo n more declared (i + 1)
 declared_next n set more declared looked same i d h is adds so p =
     let item : d ≡ get_or declared i d = is ∙ ap (λ (zs : List Declared). get_or zs i d) same in
     let below : i < length declared = rw same at h in
     let taken : take (i + 1) declared ≡ take i declared ++ d ∷ [] = take_more declared i d below ∙ ap (λ x. take i declared ++ x ∷ []) (sym item) in
-    let any : list_any (is_property_of n p) (take (i + 1) declared) ≡ (list_any (is_property_of n p) (take i declared) || is_property_of n p d) = ap (list_any (is_property_of n p)) taken ∙ any_last (is_property_of n p) (take i declared) d in
+    let any : list_any (is_property_of n p) (take (i + 1) declared) ≡ (list_any (is_property_of n p) (take i declared) || is_property_of n p d) =
+    ap (list_any (is_property_of n p)) taken ∙ any_last (is_property_of n p) (take i declared) d in
     let either = or_is (list_any (is_property_of n p) (take i declared)) (is_property_of n p d) in
     (λ m. any ∙ either.0 (in_front ((adds p).0 m)), λ m. (adds p).1 (behind (either.1 (sym any ∙ m))))
   where
@@ -153,7 +160,8 @@ declared_next n set more declared looked same i d h is adds so p =
     behind (inl e) = inl ((so p).1 e)
     behind (inr e) = inr e
 
-pub declared_end : (n : ℕ) (set : PropSet) (declared looked : List Declared) → looked ≡ declared → (i : ℕ) → length looked ≤ i → DeclaredSo n set declared i → IsSetOf set (λ (p : Prop). IsTrue (list_any (is_property_of n p) declared))
+pub declared_end : (n : ℕ) (set : PropSet) (declared looked : List Declared) → looked ≡ declared → (i : ℕ) → length looked ≤ i → DeclaredSo n set declared i →
+    IsSetOf set (λ (p : Prop). IsTrue (list_any (is_property_of n p) declared))
 declared_end n set declared looked same i h so p =
     let over : length declared ≤ i = rw same at h in
     subst (λ (xs : List Declared). HasProp set p ↔ IsTrue (list_any (is_property_of n p) xs)) (take_all i declared over) (so p)
@@ -163,7 +171,8 @@ module _ (P : Program) (context : Context) where
   abbrev Said : Head → Prop → Type 0
   Said h p = IsSaid P anywhere context h p
 
-  pub said_of_definition : (set : PropSet) (h : Head) (n : ℕ) → h ≡ Def n → IsSetOf set (λ (p : Prop). IsTrue (list_any (is_property_of n p) P.declared)) → IsSetOf set (Said h)
+  pub said_of_definition : (set : PropSet) (h : Head) (n : ℕ) → h ≡ Def n → IsSetOf set (λ (p : Prop). IsTrue (list_any (is_property_of n p) P.declared)) →
+      IsSetOf set (Said h)
   said_of_definition set h n is all p =
       let tells = decides_said (at_no_place P context) (Def n) p in
       subst (λ (g : Head). HasProp set p ↔ Said g p) (sym is) (λ m. tells.0 ((all p).0 m), λ m. (all p).1 (tells.1 m))
@@ -180,10 +189,16 @@ module _ (P : Program) (context : Context) where
   abbrev Wanted : Head → PropSet → Type 0
   Wanted h wanted = (p : Prop) → HasProp wanted p → IsKnown P anywhere context h p
 
-  pub wanted_none : (h : Head) (wanted : PropSet) (r : Bool) → (IsTrue r ↔ ((p : Prop) → HasProp wanted p → HasProp NONE p)) → r ≡ true → r ≡ has_wanted (at_no_place P context) h wanted
+  pub wanted_none : (h : Head) (wanted : PropSet) (r : Bool) → (IsTrue r ↔ ((p : Prop) → HasProp wanted p → HasProp NONE p)) → r ≡ true →
+      r ≡ has_wanted (at_no_place P context) h wanted
   wanted_none h wanted r nothing e =
       e ∙ sym ((decides_wanted (at_no_place P context) h wanted).1 (λ p wants. absurd (none_in p (nothing.0 e p wants))))
 
-  pub wanted_all : (h : Head) (wanted said closed : PropSet) (r : Bool) → IsSetOf said (Said h) → IsClosure said closed → (IsTrue r ↔ ((p : Prop) → HasProp wanted p → HasProp closed p)) → r ≡ has_wanted (at_no_place P context) h wanted
+  pub wanted_all : (h : Head) (wanted said closed : PropSet) (r : Bool) → IsSetOf said (Said h) → IsClosure said closed →
+      (IsTrue r ↔ ((p : Prop) → HasProp wanted p → HasProp closed p)) → r ≡ has_wanted (at_no_place P context) h wanted
   wanted_all h wanted said closed r is closes all =
-      same_from_decides r _ (λ e p wants. to_known (λ q. (is q).0) ((closes p).0 (all.0 e p wants)), λ knows. all.1 (λ p wants. (closes p).1 (to_known (λ q. (is q).1) (knows p wants)))) (decides_wanted (at_no_place P context) h wanted)
+      same_from_decides r _ (
+        λ e p wants. to_known (λ q. (is q).0) ((closes p).0 (all.0 e p wants)),
+        λ knows. all.1
+            (λ p wants. (closes p).1 (to_known (λ q. (is q).1) (knows p wants))),
+      ) (decides_wanted (at_no_place P context) h wanted)

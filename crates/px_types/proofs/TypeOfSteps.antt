@@ -1,9 +1,9 @@
 -- The type of a term, step by step as the code finds it.
-use Rattle.std.proofs.Common.{◌≡◌, ◌↔◌, ◌⊎◌, inl, inr, ℕ, zero, suc, ◌+◌, ◌<◌, ◌≤◌, ◌^◌, Bool, true, false, ◌&&◌, ◌||◌, IsTrue, List, [], ◌∷◌, ◌++◌, length, map, reverse, get_or, take, drop, Option, Some, None, Result, Ok, Err, refl, sym, ◌∙◌, ap, subst, Decides, arith, drop-cons, add-one}
+use Rattle.std.proofs.Common.{◌≡◌, ◌↔◌, ℕ, zero, suc, ◌+◌, ◌<◌, ◌≤◌, ◌^◌, Bool, true, false, ◌&&◌, IsTrue, List, [], ◌∷◌, ◌++◌, length, map, reverse, get_or, take, drop, Option, Some, None, Result, Ok, Err, refl, sym, ◌∙◌, ap, subst, Decides, arith, drop-cons, add-one}
 use Rattle.std.specs.Prelude.{slice_get, ◌==◌, ◌-◌, nat_lt}
 use Rattle.std.specs.Option.{option_map}
 use Rattle.std.specs.Result.{IsErrAnd}
-use Rattle.std.specs.List.{list_all, list_any}
+use Rattle.std.specs.List.{list_all}
 use Rattle.std.proofs.lemmas.Bool.{false≢true}
 use Rattle.std.proofs.lemmas.Bool.Decides.{Decides-like, Decides-eqb, Decides-ltb, same_from_decides}
 use Rattle.std.proofs.lemmas.List.{length-map, length-reverse, map-append, take_more, drop_all, get_or_append_left, get_or-reverse}
@@ -33,9 +33,12 @@ use Rattle.px_types.proofs.TypeOfShapes.{type_found_at}
 pub same_is : (T U : Ty) (r : Bool) → (IsTrue r ↔ (T ≡ U)) → r ≡ same T U
 same_is T U r h = same_from_decides r (same T U) h (decides_same T U)
 
-pub alike_is : (own : Signature) (wanted : FnType) (r : Bool) → (IsTrue r ↔ ((own.takes ≡ []) × ((own.params ≡ wanted.params) × (own.result ≡ wanted.result)))) → r ≡ is_alike own wanted
+pub alike_is : (own : Signature) (wanted : FnType) (r : Bool) →
+    (IsTrue r ↔ ((own.takes ≡ []) × ((own.params ≡ wanted.params) × (own.result ≡ wanted.result)))) → r ≡ is_alike own wanted
 alike_is own wanted r h =
-    same_from_decides r (is_alike own wanted) (Decides-like _ (λ k. record { takes = k.0; params = k.1.0; result = k.1.1 }) (λ (a : IsAlike own wanted). (a.takes, (a.params, a.result))) h) (decides_alike own wanted)
+    same_from_decides r (is_alike own wanted)
+    (Decides-like _ (λ k. record { takes = k.0; params = k.1.0; result = k.1.1 }) (λ (a : IsAlike own wanted). (a.takes, (a.params, a.result))) h)
+    (decides_alike own wanted)
 
 pub literal_is : (w : ℕ) → w < 2 ^ 64 → literal_type w ≡ Some type.Word
 unfolding literal_type
@@ -57,7 +60,8 @@ con_is : (T : Ty) (y : Ty-F Ty) (d : ℕ) (types : List Ty) (r : Bool) → out-T
 con_is T y d types r is h = same_from_decides r _ (Decides-like _ (layer_con T y d types is) (con_layer T y d types is) h) (decides_same T (type.Con d types))
 
 pub same_con : (T : Ty) (e d : ℕ) (args types : List Ty) (r : Bool) → T ≡ type.Con e args → e ≡ d → (IsTrue r ↔ (args ≡ types)) → r ≡ same T (type.Con d types)
-same_con T e d args types r is same h = con_is T (Ty-F.Con e args) d types r (ap out-Ty is ∙ type.outs-Con e args) (Decides-like _ (λ k. λ i. Ty-F.Con (same i) (k i)) (λ k. cc) h)
+same_con T e d args types r is same h =
+    con_is T (Ty-F.Con e args) d types r (ap out-Ty is ∙ type.outs-Con e args) (Decides-like _ (λ k. λ i. Ty-F.Con (same i) (k i)) (λ k. cc) h)
 
 eqb_false : (m n : ℕ) → (m ≡ n → ⊥) → (m == n) ≡ false
 eqb_false m n h = go (m == n) (Decides-eqb m n).0
@@ -67,7 +71,8 @@ eqb_false m n h = go (m == n) (Decides-eqb m n).0
     go false k = refl
 
 pub other_con : (T : Ty) (e d : ℕ) (args types : List Ty) → T ≡ type.Con e args → (e ≡ d → ⊥) → (e == d) ≡ same T (type.Con d types)
-other_con T e d args types is other = eqb_false e d other ∙ con_is T (Ty-F.Con e args) d types false (ap out-Ty is ∙ type.outs-Con e args) (λ k. absurd (false≢true k), λ k. absurd (other cc))
+other_con T e d args types is other =
+    eqb_false e d other ∙ con_is T (Ty-F.Con e args) d types false (ap out-Ty is ∙ type.outs-Con e args) (λ k. absurd (false≢true k), λ k. absurd (other cc))
 
 pub word_no_con : (T : Ty) (d : ℕ) (types : List Ty) → T ≡ type.Word → false ≡ same T (type.Con d types)
 word_no_con T d types is = con_is T Ty-F.Word d types false (ap out-Ty is ∙ type.outs-Word) (λ k. absurd (false≢true k), λ k. absurd cc)
@@ -80,16 +85,19 @@ pub stage : {S T : Type 0} (o : Option S) (f : S → Option T) {whole : Option T
 unfolding followed
 stage o f e x is = e ∙ ap (λ (p : Option _). followed p f) is
 
-pub ends_here : {S T : Type 0} (o : Option S) (f : S → Option T) (whole : Option T) → whole ≡ followed o f → (end : NotTyped) → EndsWithout o end → EndsWithout whole end
+pub ends_here : {S T : Type 0} (o : Option S) (f : S → Option T) (whole : Option T) → whole ≡ followed o f → (end : NotTyped) → EndsWithout o end →
+    EndsWithout whole end
 unfolding followed
 ends_here o f whole e IllTyped h = e ∙ ap (λ (p : Option _). followed p f) h
 ends_here o f whole e NoMemory h = tt
 
-pub end_is : {T : Type 0} (whole : Option T) (r : Result T NotTyped) (end : NotTyped) → IsErrAnd r (λ (e : NotTyped). e ≡ end) → EndsWithout whole end → Finds whole r
+pub end_is : {T : Type 0} (whole : Option T) (r : Result T NotTyped) (end : NotTyped) → IsErrAnd r (λ (e : NotTyped). e ≡ end) → EndsWithout whole end →
+    Finds whole r
 end_is whole (Ok x) end same h = absurd same
 end_is whole (Err e) end same h = subst (EndsWithout whole) (sym same) h
 
-pub passed_on : {S T : Type 0} (o : Option S) (f : S → Option T) (whole : Option T) → whole ≡ followed o f → (r : Result T NotTyped) (end : NotTyped) → IsErrAnd r (λ (e : NotTyped). e ≡ end) → EndsWithout o end → Finds whole r
+pub passed_on : {S T : Type 0} (o : Option S) (f : S → Option T) (whole : Option T) → whole ≡ followed o f → (r : Result T NotTyped) (end : NotTyped) →
+    IsErrAnd r (λ (e : NotTyped). e ≡ end) → EndsWithout o end → Finds whole r
 passed_on o f whole e r end same h = end_is whole r end same (ends_here o f whole e end h)
 
 pub always_none : {S T : Type 0} (o : Option S) (f : S → Option T) → ((x : S) → f x ≡ None) → followed o f ≡ None
@@ -113,60 +121,82 @@ unfolding parts_have
 parts_uneven bound [] [] h = absurd (h refl)
 parts_uneven bound [] (T ∷ types) h = refl
 parts_uneven bound (part ∷ parts) [] h = refl
-parts_uneven bound (part ∷ parts) (T ∷ types) h = always_none (part bound) _ (λ U. always_none (when (same U T)) _ (λ _. parts_uneven bound parts types (λ e. h (omega (arith, e)))))
+parts_uneven bound (part ∷ parts) (T ∷ types) h =
+    always_none (part bound) _ (λ U. always_none (when (same U T)) _ (λ _. parts_uneven bound parts types (λ e. h (omega (arith, e)))))
 
 -- what is found from this part on is what is found of all
 abbrev pub HaveSo : (Term → Found) → List Ty → List Term → List Ty → ℕ → Type 0
 HaveSo own bound parts wanted i = parts_have bound (map own (drop i parts)) (drop i wanted) ≡ parts_have bound (map own parts) wanted
 
-module _ (own : Term → Found) (bound : List Ty) (parts terms : List Term) (wanted types : List Ty) (same_parts : terms ≡ parts) (same_types : types ≡ wanted) where
-  have_at : (i : ℕ) (t : Term) (T : Ty) → i < length terms → i < length types → t ≡ get_or terms i t → T ≡ get_or types i T → HaveSo own bound parts wanted i → parts_have bound (map own parts) wanted ≡ followed (own t bound) (λ (U : Ty). followed (when (same U T)) (λ _. parts_have bound (map own (drop (i + 1) parts)) (drop (i + 1) wanted)))
-  unfolding parts_have
-  have_at i t T h k is js before = sym before ∙ rw (drop_at parts terms same_parts i t h is, drop_at wanted types same_types i T k js) refl
+module _ (own : Term → Found) (bound : List Ty) (parts terms : List Term) (wanted types : List Ty) (same_parts : terms ≡ parts) (same_types : types ≡ wanted)
+  where
+    have_at : (i : ℕ) (t : Term) (T : Ty) → i < length terms → i < length types → t ≡ get_or terms i t → T ≡ get_or types i T →
+        HaveSo own bound parts wanted i →
+        parts_have bound (map own parts) wanted ≡ followed (own t bound)
+        (λ (U : Ty). followed (when (same U T)) (λ _. parts_have bound (map own (drop (i + 1) parts)) (drop (i + 1) wanted)))
+    unfolding parts_have
+    have_at i t T h k is js before = sym before ∙ rw (drop_at parts terms same_parts i t h is, drop_at wanted types same_types i T k js) refl
 
-  pub have_next : (i : ℕ) (t : Term) (T U : Ty) → i < length terms → i < length types → t ≡ get_or terms i t → T ≡ get_or types i T → own t bound ≡ Some U → same U T ≡ true → HaveSo own bound parts wanted i → HaveSo own bound parts wanted (i + 1)
-  have_next i t T U h k is js has agrees before = sym (stage _ _ (stage _ _ (have_at i t T h k is js before) U has) tt (true_when _ agrees))
+    pub have_next : (i : ℕ) (t : Term) (T U : Ty) → i < length terms → i < length types → t ≡ get_or terms i t → T ≡ get_or types i T → own t bound ≡ Some U →
+        same U T ≡ true → HaveSo own bound parts wanted i → HaveSo own bound parts wanted (i + 1)
+    have_next i t T U h k is js has agrees before = sym (stage _ _ (stage _ _ (have_at i t T h k is js before) U has) tt (true_when _ agrees))
 
-  pub have_fails : (i : ℕ) (t : Term) (T : Ty) (end : NotTyped) → i < length terms → i < length types → t ≡ get_or terms i t → T ≡ get_or types i T → EndsWithout (own t bound) end → HaveSo own bound parts wanted i → EndsWithout (parts_have bound (map own parts) wanted) end
-  have_fails i t T end h k is js fails before = ends_here _ _ _ (have_at i t T h k is js before) end fails
+    pub have_fails : (i : ℕ) (t : Term) (T : Ty) (end : NotTyped) → i < length terms → i < length types → t ≡ get_or terms i t → T ≡ get_or types i T →
+        EndsWithout (own t bound) end → HaveSo own bound parts wanted i → EndsWithout (parts_have bound (map own parts) wanted) end
+    have_fails i t T end h k is js fails before = ends_here _ _ _ (have_at i t T h k is js before) end fails
 
-  pub have_other : (i : ℕ) (t : Term) (T U : Ty) → i < length terms → i < length types → t ≡ get_or terms i t → T ≡ get_or types i T → own t bound ≡ Some U → same U T ≡ false → HaveSo own bound parts wanted i → parts_have bound (map own parts) wanted ≡ None
-  have_other i t T U h k is js has differs before = ends_here _ _ _ (stage _ _ (have_at i t T h k is js before) U has) IllTyped (false_when _ differs)
+    pub have_other : (i : ℕ) (t : Term) (T U : Ty) → i < length terms → i < length types → t ≡ get_or terms i t → T ≡ get_or types i T → own t bound ≡ Some U →
+        same U T ≡ false → HaveSo own bound parts wanted i → parts_have bound (map own parts) wanted ≡ None
+    have_other i t T U h k is js has differs before = ends_here _ _ _ (stage _ _ (have_at i t T h k is js before) U has) IllTyped (false_when _ differs)
 
-  pub have_end : (i : ℕ) → length terms ≤ i → length types ≤ i → HaveSo own bound parts wanted i → parts_have bound (map own parts) wanted ≡ Some tt
-  unfolding parts_have
-  have_end i h k before = sym before ∙ rw (drop_end parts terms same_parts i h, drop_end wanted types same_types i k) refl
+    pub have_end : (i : ℕ) → length terms ≤ i → length types ≤ i → HaveSo own bound parts wanted i → parts_have bound (map own parts) wanted ≡ Some tt
+    unfolding parts_have
+    have_end i h k before = sym before ∙ rw (drop_end parts terms same_parts i h, drop_end wanted types same_types i k) refl
 
 -- The one type of arms.
-pub arms_uneven : (bound types : List Ty) (before : Option Ty) (cons : List ConDef) (arms : List Found) → (length arms ≡ length cons → ⊥) → arms_have bound types before cons arms ≡ None
+pub arms_uneven : (bound types : List Ty) (before : Option Ty) (cons : List ConDef) (arms : List Found) → (length arms ≡ length cons → ⊥) →
+    arms_have bound types before cons arms ≡ None
 unfolding arms_have
 arms_uneven bound types before [] [] h = absurd (h refl)
 arms_uneven bound types before [] (arm ∷ arms) h = refl
 arms_uneven bound types before (c ∷ cons) [] h = refl
-arms_uneven bound types before (c ∷ cons) (arm ∷ arms) h = always_none (arm (reverse (tys_instance types c.fields) ++ bound)) _ (λ T. always_none (when (agrees before T)) _ (λ _. arms_uneven bound types (Some T) cons arms (λ e. h (omega (arith, e)))))
+arms_uneven bound types before (c ∷ cons) (arm ∷ arms) h =
+    always_none (arm (reverse (tys_instance types c.fields) ++ bound)) _
+    (λ T. always_none (when (agrees before T)) _ (λ _. arms_uneven bound types (Some T) cons arms (λ e. h (omega (arith, e)))))
 
 -- what is found from this arm on, where the arms before had such a type, is what is found of all
 abbrev pub ArmsSo : (Term → Found) → List Ty → List Ty → List Term → List ConDef → ℕ → Option Ty → Type 0
 ArmsSo own bound types arms cons i before = arms_have bound types before (drop i cons) (map own (drop i arms)) ≡ arms_have bound types None cons (map own arms)
 
-module _ (own : Term → Found) (bound types : List Ty) (arms bodies : List Term) (cons looked : List ConDef) (same_arms : bodies ≡ arms) (same_cons : looked ≡ cons) where
+module _ (own : Term → Found) (bound types : List Ty) (arms bodies : List Term) (cons looked : List ConDef) (same_arms : bodies ≡ arms)
+    (same_cons : looked ≡ cons) where
   abbrev pub inside : ConDef → List Ty
   inside c = reverse (tys_instance types c.fields) ++ bound
 
-  arms_at : (i : ℕ) (before : Option Ty) (t : Term) (c : ConDef) → i < length bodies → i < length looked → t ≡ get_or bodies i t → c ≡ get_or looked i c → ArmsSo own bound types arms cons i before → arms_have bound types None cons (map own arms) ≡ followed (own t (inside c)) (λ (T : Ty). followed (when (agrees before T)) (λ _. arms_have bound types (Some T) (drop (i + 1) cons) (map own (drop (i + 1) arms))))
+  arms_at : (i : ℕ) (before : Option Ty) (t : Term) (c : ConDef) → i < length bodies → i < length looked → t ≡ get_or bodies i t → c ≡ get_or looked i c →
+      ArmsSo own bound types arms cons i before →
+      arms_have bound types None cons (map own arms) ≡ followed (own t (inside c))
+      (λ (T : Ty). followed (when (agrees before T)) (λ _. arms_have bound types (Some T) (drop (i + 1) cons) (map own (drop (i + 1) arms))))
   unfolding arms_have
   arms_at i before t c h k is js so = sym so ∙ rw (drop_at arms bodies same_arms i t h is, drop_at cons looked same_cons i c k js) refl
 
-  pub arms_next : (i : ℕ) (before : Option Ty) (t : Term) (c : ConDef) (T : Ty) → i < length bodies → i < length looked → t ≡ get_or bodies i t → c ≡ get_or looked i c → own t (inside c) ≡ Some T → agrees before T ≡ true → ArmsSo own bound types arms cons i before → ArmsSo own bound types arms cons (i + 1) (Some T)
+  pub arms_next : (i : ℕ) (before : Option Ty) (t : Term) (c : ConDef) (T : Ty) → i < length bodies → i < length looked → t ≡ get_or bodies i t →
+      c ≡ get_or looked i c → own t (inside c) ≡ Some T → agrees before T ≡ true → ArmsSo own bound types arms cons i before →
+      ArmsSo own bound types arms cons (i + 1) (Some T)
   arms_next i before t c T h k is js has same so = sym (stage _ _ (stage _ _ (arms_at i before t c h k is js so) T has) tt (true_when _ same))
 
-  pub arms_fail : (i : ℕ) (before : Option Ty) (t : Term) (c : ConDef) (end : NotTyped) → i < length bodies → i < length looked → t ≡ get_or bodies i t → c ≡ get_or looked i c → EndsWithout (own t (inside c)) end → ArmsSo own bound types arms cons i before → EndsWithout (arms_have bound types None cons (map own arms)) end
+  pub arms_fail : (i : ℕ) (before : Option Ty) (t : Term) (c : ConDef) (end : NotTyped) → i < length bodies → i < length looked → t ≡ get_or bodies i t →
+      c ≡ get_or looked i c → EndsWithout (own t (inside c)) end → ArmsSo own bound types arms cons i before →
+      EndsWithout (arms_have bound types None cons (map own arms)) end
   arms_fail i before t c end h k is js fails so = ends_here _ _ _ (arms_at i before t c h k is js so) end fails
 
-  pub arms_differ : (i : ℕ) (before : Option Ty) (t : Term) (c : ConDef) (T : Ty) → i < length bodies → i < length looked → t ≡ get_or bodies i t → c ≡ get_or looked i c → own t (inside c) ≡ Some T → agrees before T ≡ false → ArmsSo own bound types arms cons i before → arms_have bound types None cons (map own arms) ≡ None
+  pub arms_differ : (i : ℕ) (before : Option Ty) (t : Term) (c : ConDef) (T : Ty) → i < length bodies → i < length looked → t ≡ get_or bodies i t →
+      c ≡ get_or looked i c → own t (inside c) ≡ Some T → agrees before T ≡ false → ArmsSo own bound types arms cons i before →
+      arms_have bound types None cons (map own arms) ≡ None
   arms_differ i before t c T h k is js has differs so = ends_here _ _ _ (stage _ _ (arms_at i before t c h k is js so) T has) IllTyped (false_when _ differs)
 
-  pub arms_end : (i : ℕ) (before : Option Ty) → length bodies ≤ i → length looked ≤ i → ArmsSo own bound types arms cons i before → arms_have bound types None cons (map own arms) ≡ before
+  pub arms_end : (i : ℕ) (before : Option Ty) → length bodies ≤ i → length looked ≤ i → ArmsSo own bound types arms cons i before →
+      arms_have bound types None cons (map own arms) ≡ before
   unfolding arms_have
   arms_end i before h k so = sym so ∙ rw (drop_end arms bodies same_arms i h, drop_end cons looked same_cons i k) refl
 
@@ -183,14 +213,17 @@ abbrev pub FitSo : Env → List Fun → List FnType → ℕ → Type 0
 FitSo E fs takes i = arguments_fit E (drop i fs) (drop i takes) ≡ arguments_fit E fs takes
 
 module _ (E : Env) (fs given : List Fun) (takes wanted : List FnType) (same_funs : given ≡ fs) (same_takes : wanted ≡ takes) where
-  fit_at : (i : ℕ) (f : Fun) (F : FnType) → i < length given → i < length wanted → f ≡ get_or given i f → F ≡ get_or wanted i F → FitSo E fs takes i → arguments_fit E fs takes ≡ followed (argument_fits E f F) (λ _. arguments_fit E (drop (i + 1) fs) (drop (i + 1) takes))
+  fit_at : (i : ℕ) (f : Fun) (F : FnType) → i < length given → i < length wanted → f ≡ get_or given i f → F ≡ get_or wanted i F → FitSo E fs takes i →
+      arguments_fit E fs takes ≡ followed (argument_fits E f F) (λ _. arguments_fit E (drop (i + 1) fs) (drop (i + 1) takes))
   unfolding arguments_fit
   fit_at i f F h k is js so = sym so ∙ rw (drop_at fs given same_funs i f h is, drop_at takes wanted same_takes i F k js) refl
 
-  pub fit_next : (i : ℕ) (f : Fun) (F : FnType) (u : Unit {0}) → i < length given → i < length wanted → f ≡ get_or given i f → F ≡ get_or wanted i F → argument_fits E f F ≡ Some u → FitSo E fs takes i → FitSo E fs takes (i + 1)
+  pub fit_next : (i : ℕ) (f : Fun) (F : FnType) (u : Unit {0}) → i < length given → i < length wanted → f ≡ get_or given i f → F ≡ get_or wanted i F →
+      argument_fits E f F ≡ Some u → FitSo E fs takes i → FitSo E fs takes (i + 1)
   fit_next i f F u h k is js fits so = sym (stage _ _ (fit_at i f F h k is js so) u fits)
 
-  pub fit_fails : (i : ℕ) (f : Fun) (F : FnType) (end : NotTyped) → i < length given → i < length wanted → f ≡ get_or given i f → F ≡ get_or wanted i F → EndsWithout (argument_fits E f F) end → FitSo E fs takes i → EndsWithout (arguments_fit E fs takes) end
+  pub fit_fails : (i : ℕ) (f : Fun) (F : FnType) (end : NotTyped) → i < length given → i < length wanted → f ≡ get_or given i f → F ≡ get_or wanted i F →
+      EndsWithout (argument_fits E f F) end → FitSo E fs takes i → EndsWithout (arguments_fit E fs takes) end
   fit_fails i f F end h k is js fails so = ends_here _ _ _ (fit_at i f F h k is js so) end fails
 
   pub fit_end : (i : ℕ) → length given ≤ i → length wanted ≤ i → FitSo E fs takes i → arguments_fit E fs takes ≡ Some tt
@@ -216,7 +249,8 @@ module _ {X : Type 0} (test : X → Bool) (xs looked : List X) (same_items : loo
   all_end i h so = sym (sym so ∙ ap (list_all test) (drop_end xs looked same_items i h))
 
 -- Pattern variables.
-pub variable_later : {X Y : Type 0} (f : X → Y) (xs : List X) (ys : List Y) (n : ℕ) → length xs ≤ n → slice_get (reverse (map f xs) ++ ys) n ≡ slice_get ys (n - length xs)
+pub variable_later : {X Y : Type 0} (f : X → Y) (xs : List X) (ys : List Y) (n : ℕ) → length xs ≤ n →
+    slice_get (reverse (map f xs) ++ ys) n ≡ slice_get ys (n - length xs)
 variable_later f xs ys n h =
     let long : length (reverse (map f xs)) ≡ length xs = simp (length-reverse, length-map) refl in
     get_behind (reverse (map f xs)) ys n (rw long h) ∙ ap (λ m. slice_get ys (n - m)) long
@@ -226,14 +260,17 @@ variable_later f xs ys n h =
     get_behind (z ∷ zs) ys zero h = absurd (omega arith)
     get_behind (z ∷ zs) ys (suc n) h = get_behind zs ys n (omega arith) ∙ ap (slice_get ys) (omega arith)
 
-pub variable_here : {X Y : Type 0} (f : X → Y) (xs : List X) (ys : List Y) (n : ℕ) (x : X) → n < length xs → slice_get xs (length xs - 1 - n) ≡ Some x → slice_get (reverse (map f xs) ++ ys) n ≡ Some (f x)
+pub variable_here : {X Y : Type 0} (f : X → Y) (xs : List X) (ys : List Y) (n : ℕ) (x : X) → n < length xs → slice_get xs (length xs - 1 - n) ≡ Some x →
+    slice_get (reverse (map f xs) ++ ys) n ≡ Some (f x)
 variable_here {X} {Y} f xs ys n x h is =
     let long : length (reverse (map f xs)) ≡ length xs = simp (length-reverse, length-map) refl in
     let mapped : length (map f xs) ≡ length xs = length-map xs f in
     let within : n < length (reverse (map f xs)) = rw long h in
     let inside : n < length (map f xs) = rw mapped h in
     let found : slice_get (map f xs) (length (map f xs) - 1 - n) ≡ Some (f x) = rw mapped (slice_get-map f xs (length xs - 1 - n) ∙ ap (option_map f) is) in
-    let first : get_or (reverse (map f xs) ++ ys) n (f x) ≡ f x = get_or_append_left (reverse (map f xs)) ys (f x) n within ∙ get_or-reverse (map f xs) n (f x) inside ∙ get_or_from_slice_get (map f xs) (length (map f xs) - 1 - n) (f x) (f x) found in
+    let first : get_or (reverse (map f xs) ++ ys) n (f x) ≡ f x =
+    get_or_append_left (reverse (map f xs)) ys (f x) n within ∙ get_or-reverse (map f xs) n (f x) inside
+    ∙ get_or_from_slice_get (map f xs) (length (map f xs) - 1 - n) (f x) (f x) found in
     slice_get-get_or (reverse (map f xs) ++ ys) n (f x) (longer (reverse (map f xs)) ys n within) ∙ ap Some first
   where
     longer : (zs ys : List Y) (n : ℕ) → n < length zs → n < length (zs ++ ys)
@@ -268,8 +305,10 @@ module _ (P : Program) (tparams : ℕ) where
   pub var_is_type : (T : Ty) (n : ℕ) → T ≡ type.Var n → nat_lt n tparams ≡ is_type P tparams T
   var_is_type T n is = sym (type_at T (Ty-F.Var n) (ap out-Ty is ∙ type.outs-Var n))
 
-  pub con_is_type : (T : Ty) (d : ℕ) (args : List Ty) (b : Bool) → T ≡ type.Con d args → takes P d (length args) ≡ true → b ≡ are_types P tparams args → b ≡ is_type P tparams T
-  con_is_type T d args b is counted e = e ∙ sym (type_at T (Ty-F.Con d args) (ap out-Ty is ∙ type.outs-Con d args) ∙ ap (λ t. t && are_types P tparams args) counted)
+  pub con_is_type : (T : Ty) (d : ℕ) (args : List Ty) (b : Bool) → T ≡ type.Con d args → takes P d (length args) ≡ true → b ≡ are_types P tparams args →
+      b ≡ is_type P tparams T
+  con_is_type T d args b is counted e =
+      e ∙ sym (type_at T (Ty-F.Con d args) (ap out-Ty is ∙ type.outs-Con d args) ∙ ap (λ t. t && are_types P tparams args) counted)
 
   pub con_is_no_type : (T : Ty) (d : ℕ) (args : List Ty) → T ≡ type.Con d args → takes P d (length args) ≡ false → false ≡ is_type P tparams T
   con_is_no_type T d args is counted = sym (type_at T (Ty-F.Con d args) (ap out-Ty is ∙ type.outs-Con d args) ∙ ap (λ t. t && are_types P tparams args) counted)
@@ -285,15 +324,21 @@ module _ (E : Env) (t : Term) (bound : List Ty) where
   pub literal_found : (w : ℕ) (T : Ty) → t ≡ term.Lit w → literal_type w ≡ Some T → type_found E t bound ≡ Some T
   literal_found w T is e = type_found_at E t (Term-F.Lit w) bound (ap out-Term is ∙ term.outs-Lit w) ∙ e
 
-  pub con_found : (d k : ℕ) (types : List Ty) (fields : List Term) → t ≡ term.Con d k types fields → type_found E t bound ≡ followed (fields_found E d k types) (λ (wanted : List Ty). followed (parts_have bound (map (type_found E) fields) wanted) (λ _. Some (type.Con d types)))
+  pub con_found : (d k : ℕ) (types : List Ty) (fields : List Term) → t ≡ term.Con d k types fields →
+      type_found E t bound ≡ followed (fields_found E d k types)
+      (λ (wanted : List Ty). followed (parts_have bound (map (type_found E) fields) wanted) (λ _. Some (type.Con d types)))
   unfolding con_type
   con_found d k types fields is = type_found_at E t (Term-F.Con d k types fields) bound (ap out-Term is ∙ term.outs-Con d k types fields)
 
-  pub call_found : (f : Fun) (funs : List Fun) (args : List Term) → t ≡ term.Call f funs args → type_found E t bound ≡ followed (callee_found E f) (λ (s : Signature). followed (arguments_fit E funs s.takes) (λ _. followed (parts_have bound (map (type_found E) args) s.params) (λ _. Some s.result)))
+  pub call_found : (f : Fun) (funs : List Fun) (args : List Term) → t ≡ term.Call f funs args →
+      type_found E t bound ≡ followed (callee_found E f)
+      (λ (s : Signature). followed (arguments_fit E funs s.takes) (λ _. followed (parts_have bound (map (type_found E) args) s.params) (λ _. Some s.result)))
   unfolding call_type
   call_found f funs args is = type_found_at E t (Term-F.Call f funs args) bound (ap out-Term is ∙ term.outs-Call f funs args)
 
-  pub match_found : (on : Term) (d : ℕ) (types : List Ty) (arms : List Term) → t ≡ term.Match on d types arms → type_found E t bound ≡ followed (type_found E on bound) (λ (T : Ty). followed (constructors_found E T d types) (λ (cons : List ConDef). arms_have bound types None cons (map (type_found E) arms)))
+  pub match_found : (on : Term) (d : ℕ) (types : List Ty) (arms : List Term) → t ≡ term.Match on d types arms →
+      type_found E t bound ≡ followed (type_found E on bound)
+      (λ (T : Ty). followed (constructors_found E T d types) (λ (cons : List ConDef). arms_have bound types None cons (map (type_found E) arms)))
   unfolding match_type
   match_found on d types arms is = type_found_at E t (Term-F.Match on d types arms) bound (ap out-Term is ∙ term.outs-Match on d types arms)
 
@@ -308,16 +353,21 @@ no_item (x ∷ xs) zero h e = absurd cc
 no_item (x ∷ xs) (suc i) h e = no_item xs i (omega arith) e
 
 -- one function type more, with types put in
-pub fn_types_next : (types : List Ty) (funs looked : List FnType) → looked ≡ funs → (i : ℕ) (F : FnType) (made more : List FnType) (params : List Ty) (T : Ty) → i < length looked → F ≡ get_or looked i F → made ≡ map (fn_type_instance types) (take i funs) → params ≡ tys_instance types F.params → T ≡ ty_instance types F.result → more ≡ made ++ record { params = params; result = T; props = F.props } ∷ [] → more ≡ map (fn_type_instance types) (take (i + 1) funs)
+pub fn_types_next : (types : List Ty) (funs looked : List FnType) → looked ≡ funs → (i : ℕ) (F : FnType) (made more : List FnType) (params : List Ty) (T : Ty)
+    → i < length looked → F ≡ get_or looked i F → made ≡ map (fn_type_instance types) (take i funs) → params ≡ tys_instance types F.params → T ≡ ty_instance
+    types F.result → more ≡ made ++ record { params = params; result = T; props = F.props } ∷ [] → more ≡ map (fn_type_instance types) (take (i + 1) funs)
 fn_types_next types funs looked same i F made more params T h is before params_are result_is pushed =
     let item : F ≡ get_or funs i F = is ∙ ap (λ (zs : List FnType). get_or zs i F) same in
     let below : i < length funs = rw same at h in
-    let one : ◌≡◌ {A = FnType} (record { params = params; result = T; props = F.props }) (fn_type_instance types F) = λ j. record { params = params_are j; result = result_is j; props = F.props } in
+    let one : ◌≡◌ {A = FnType} (record { params = params; result = T; props = F.props }) (fn_type_instance types F) =
+    λ j. record { params = params_are j; result = result_is j; props = F.props } in
     let taken : take (i + 1) funs ≡ take i funs ++ F ∷ [] = take_more funs i F below ∙ ap (λ G. take i funs ++ G ∷ []) (sym item) in
     pushed ∙ (λ j. before j ++ one j ∷ []) ∙ sym (ap (map (fn_type_instance types)) taken ∙ map-append (fn_type_instance types) (take i funs) (F ∷ []))
 
-pub parts_uneven_own : (own : Term → Found) (bound : List Ty) (parts : List Term) (types : List Ty) → (length parts ≡ length types → ⊥) → parts_have bound (map own parts) types ≡ None
+pub parts_uneven_own : (own : Term → Found) (bound : List Ty) (parts : List Term) (types : List Ty) → (length parts ≡ length types → ⊥) →
+    parts_have bound (map own parts) types ≡ None
 parts_uneven_own own bound parts types h = parts_uneven bound (map own parts) types (λ e. h (sym (length-map parts own) ∙ e))
 
-pub arms_uneven_own : (own : Term → Found) (bound types : List Ty) (before : Option Ty) (cons : List ConDef) (arms : List Term) → (length arms ≡ length cons → ⊥) → arms_have bound types before cons (map own arms) ≡ None
+pub arms_uneven_own : (own : Term → Found) (bound types : List Ty) (before : Option Ty) (cons : List ConDef) (arms : List Term) →
+    (length arms ≡ length cons → ⊥) → arms_have bound types before cons (map own arms) ≡ None
 arms_uneven_own own bound types before cons arms h = arms_uneven bound types before cons (map own arms) (λ e. h (sym (length-map arms own) ∙ e))

@@ -1,5 +1,5 @@
 -- What the code's own word for what is called says.
-use Rattle.std.specs.Prelude.{◌≡◌, List, [], ◌∷◌, Option, Some, Result, Ok, Err}
+use Rattle.std.specs.Prelude.{◌≡◌, [], ◌∷◌, Option, Some, Result, Ok, Err}
 use Rattle.px_terms.specs.declared.types.Ty.TheVariants as type
 use Rattle.px_terms.specs.Programs.{bool_type}
 use Rattle.px_types.specs.declared.callees.Callee.{Callee}

@@ -30,7 +30,11 @@ pub(crate) enum Around<'a> {
 }
 
 /// The pattern variables around what stands in an arm of a constructor with these fields, at these types. It takes no memory.
-pub(crate) fn inside_arm<'a>(fields: &'a Items<Ty>, types: &'a Items<Ty>, outer: &'a Around<'a>) -> Around<'a>
+pub(crate) fn inside_arm<'a>(
+    fields: &'a Items<Ty>,
+    types: &'a Items<Ty>,
+    outer: &'a Around<'a>,
+) -> Around<'a>
     ensures { bound_of result ≡ reverse (tys_instance types.now fields.now) ++ bound_of outer.now }
 {
     Around::Arm {
@@ -41,7 +45,11 @@ pub(crate) fn inside_arm<'a>(fields: &'a Items<Ty>, types: &'a Items<Ty>, outer:
 }
 
 /// The type of the pattern variable of this number, counted from the inside. It takes memory.
-pub(crate) fn pattern_variable(alloc: Global, around: &Around, number: usize) -> Result<Ty, NotTyped>
+pub(crate) fn pattern_variable(
+    alloc: Global,
+    around: &Around,
+    number: usize,
+) -> Result<Ty, NotTyped>
     ensures { Finds (slice_get (bound_of around.now) number) result }
 {
     match around {

@@ -98,7 +98,11 @@ fn function_variable(scope: &Scope, number: u32) -> Result<Callee, NotTyped>
 }
 
 /// The function types with these types put in. It takes memory.
-fn instance_of_fn_types(alloc: Global, funs: &Items<FnType>, types: &Items<Ty>) -> Result<Items<FnType>, NoMemory>
+fn instance_of_fn_types(
+    alloc: Global,
+    funs: &Items<FnType>,
+    types: &Items<Ty>,
+) -> Result<Items<FnType>, NoMemory>
     ensures { IfOk result (λ made. made ≡ map (fn_type_instance types.now) funs.now) }
 {
     let mut made = Items::new(alloc);
@@ -141,7 +145,11 @@ fn has_type_count(scope: &Scope, fun: &Fun) -> bool
 
 /// Whether each function may stand where one of the type at its place is wanted, and there are as many of both. It takes
 /// memory.
-pub(crate) fn arguments_have(scope: &Scope, funs: &Items<Fun>, takes: &Items<FnType>) -> Result<(), NotTyped>
+pub(crate) fn arguments_have(
+    scope: &Scope,
+    funs: &Items<Fun>,
+    takes: &Items<FnType>,
+) -> Result<(), NotTyped>
     ensures { Finds (found.arguments_fit (here scope.now) funs.now takes.now) result }
 {
     let given = funs.as_slice();

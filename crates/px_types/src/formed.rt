@@ -50,5 +50,6 @@ fn takes(program: &Program, datatype: u32, given: usize) -> bool
 pub(crate) fn is_datatype(scope: &Scope, datatype: u32, types: &Items<Ty>) -> bool
     ensures { result ≡ found.is_datatype (here scope.now).program (here scope.now).context.tparams datatype types.now }
 {
-    takes(scope.program, datatype, types.len()) && are_types(types, scope.program, scope.context.tparams)
+    takes(scope.program, datatype, types.len())
+        && are_types(types, scope.program, scope.context.tparams)
 }

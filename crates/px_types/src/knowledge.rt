@@ -70,13 +70,7 @@ fn with_declared(set: PropSet, obligation: Declared, number: u32) -> PropSet
     ensures { IsSetOf result (λ p. HasProp set p ⊎ IsTrue (is_property_of number p obligation)) }
 {
     match obligation {
-        Declared::Property { def, prop } => {
-            if def == number {
-                with(set, prop)
-            } else {
-                set
-            }
-        }
+        Declared::Property { def, prop } => { if def == number { with(set, prop) } else { set } }
         Declared::Lemma { .. } => set,
     }
 }

@@ -3,7 +3,8 @@ ghost use Rattle.px_types.specs.TypeOf.{HasConstructors};
 
 use crate::{NotTyped, type_of};
 use px_terms::{
-    ConDef, Context, DataDef, Declared, Def, FnType, Fun, Head, Names, Program, Prop, PropSet, Term, Ty,
+    ConDef, Context, DataDef, Declared, Def, FnType, Fun, Head, Names, Program, Prop, PropSet,
+    Term, Ty,
 };
 use sqlite_items::{Boxed, Items};
 use std::alloc::{AllocError, Global};
@@ -224,13 +225,7 @@ fn named(ty: &Ty) -> &'static str {
     match ty {
         Ty::Word => "Word",
         Ty::Var(_number) => "A",
-        Ty::Con { datatype: 0, args } => {
-            if args.is_empty() {
-                "Bool"
-            } else {
-                "?"
-            }
-        }
+        Ty::Con { datatype: 0, args } => { if args.is_empty() { "Bool" } else { "?" } }
         Ty::Con { datatype: _, args } => match args.as_slice() {
             [Ty::Word] => "List<Word>",
             [Ty::Var(_number)] => "List<A>",
@@ -259,7 +254,10 @@ fn variables_and_literals_have_types(rt: HostRuntime) -> Result<(), Fail> {
     assert_eq!(rt; typed(alloc, &Term::Free(3))?, "A");
     assert_eq!(rt; typed(alloc, &Term::Free(4))?, "", "not there");
     assert_eq!(rt; typed(alloc, &Term::Bound(0))?, "", "no arm around it");
-    assert_eq!(rt; typed(alloc, &Term::Lit(18_446_744_073_709_551_615))?, "Word");
+    assert_eq!(rt;
+        typed(alloc, &Term::Lit(18_446_744_073_709_551_615))?,
+        "Word"
+    );
     Ok(())
 }
 
@@ -304,7 +302,11 @@ fn calls_have_types(rt: HostRuntime) -> Result<(), Fail> {
         assert_eq!(rt; typed(alloc, &term)?, want);
     }
     let lists = like_by(alloc, list_of(alloc, Ty::Word)?, Head::Weq)?;
-    assert_eq!(rt; typed(alloc, &lists)?, "", "a function of words for one of lists");
+    assert_eq!(rt;
+        typed(alloc, &lists)?,
+        "",
+        "a function of words for one of lists"
+    );
     Ok(())
 }
 

@@ -12,7 +12,8 @@ use crate::bounds::{Around, Scope, inside_arm, pattern_variable};
 use crate::callees::{arguments_have, called_by};
 use crate::formed::is_datatype;
 use px_terms::{
-    ConDef, Context, NoMemory, Program, Term, Ty, copy_ty, copy_tys, instance_of_tys, same_ty, same_tys,
+    ConDef, Context, NoMemory, Program, Term, Ty, copy_ty, copy_tys, instance_of_tys, same_ty,
+    same_tys,
 };
 use sqlite_items::{Items, at};
 use std::alloc::{AllocError, Global};
@@ -50,7 +51,12 @@ impl From<AllocError> for NotTyped {
 ///
 /// Each datatype of the program needs a constructor, as each typed program has it: a match on a value of a datatype that has
 /// none has every type.
-pub fn type_of(alloc: Global, program: &Program, context: &Context, term: &Term) -> Result<Ty, NotTyped>
+pub fn type_of(
+    alloc: Global,
+    program: &Program,
+    context: &Context,
+    term: &Term,
+) -> Result<Ty, NotTyped>
     requires { HasConstructors program.now }
     ensures ok { IfOk result (λ T. HasType program.now anywhere context.now term.now T) }
     // Where it has a type, this is the answer, besides want of memory.
@@ -113,7 +119,12 @@ struct Matched<'a> {
 
 /// Whether each part has the type at its place, and there are as many of both. It takes memory.
 #[cycle(type_in)]
-fn have_types(parts: &Items<Term>, scope: &Scope, around: &Around, wanted: &Items<Ty>) -> Result<(), NotTyped>
+fn have_types(
+    parts: &Items<Term>,
+    scope: &Scope,
+    around: &Around,
+    wanted: &Items<Ty>,
+) -> Result<(), NotTyped>
     ensures { Finds (parts_have (bound_of around.now) (map (type_found (here scope.now)) parts.now) wanted.now) result }
 {
     let terms = parts.as_slice();
@@ -132,7 +143,12 @@ fn have_types(parts: &Items<Term>, scope: &Scope, around: &Around, wanted: &Item
 
 /// The one type of the arms, an arm for each constructor. It takes memory.
 #[cycle(type_in)]
-fn arms_type(arms: &Items<Term>, scope: &Scope, around: &Around, matched: &Matched) -> Result<Ty, NotTyped>
+fn arms_type(
+    arms: &Items<Term>,
+    scope: &Scope,
+    around: &Around,
+    matched: &Matched,
+) -> Result<Ty, NotTyped>
     ensures { Finds (arms_have (bound_of around.now) matched.now.types.now None matched.now.cons.now (map (type_found (here scope.now)) arms.now)) result }
 {
     let bodies = arms.as_slice();
@@ -177,7 +193,12 @@ fn word_type(_word: u64) -> Ty
 
 /// The types of the fields of a constructor at these types. It takes memory.
 #[tactic(auto, unfolding(crate::specs::TypeOf::fields_found, crate::specs::TypeOf::followed, crate::specs::TypeOf::when))]
-fn fields_of(scope: &Scope, datatype: u32, con: u32, types: &Items<Ty>) -> Result<Items<Ty>, NotTyped>
+fn fields_of(
+    scope: &Scope,
+    datatype: u32,
+    con: u32,
+    types: &Items<Ty>,
+) -> Result<Items<Ty>, NotTyped>
     ensures { Finds (fields_found (here scope.now) datatype con types.now) result }
 {
     if !is_datatype(scope, datatype, types) {
@@ -204,7 +225,12 @@ fn datatype_at(alloc: Global, datatype: u32, types: &Items<Ty>) -> Result<Ty, No
 
 /// The constructors of the datatype that a match says it is on, where it is on a term of that type. It takes no memory.
 #[tactic(auto, unfolding(crate::specs::TypeOf::constructors_found, crate::specs::TypeOf::followed, crate::specs::TypeOf::when))]
-fn constructors_of<'a>(scope: &Scope<'a>, found: &Ty, datatype: u32, types: &Items<Ty>) -> Result<&'a Items<ConDef>, NotTyped>
+fn constructors_of<'a>(
+    scope: &Scope<'a>,
+    found: &Ty,
+    datatype: u32,
+    types: &Items<Ty>,
+) -> Result<&'a Items<ConDef>, NotTyped>
     ensures { let wanted = constructors_found (here scope.now) found.now datatype types.now in MatchResult result (λ cons. wanted ≡ Some cons.now) (EndsWithout wanted) }
 {
     if !is_con(found, datatype, types) {

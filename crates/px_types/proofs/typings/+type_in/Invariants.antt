@@ -1,4 +1,3 @@
-use Rattle.std.proofs.Common.{None}
 use Rattle.px_types.specs.Bounds.{bound_of, here}
 use Rattle.px_types.specs.TypeOf.{type_found}
 use Rattle.px_types.proofs.TypeOfSteps.{HaveSo, ArmsSo}

@@ -3,8 +3,7 @@ use Rattle.px_terms.specs.declared.types.Ty.{Ty}
 use Rattle.px_types.specs.declared.bounds.Around.{Around}
 use Rattle.px_types.specs.declared.bounds.Around.TheVariants.{Outside, outs-Outside}
 use Rattle.px_types.specs.declared.bounds.Around.TheFolds.{map-Around, fold_out-Around}
-use Rattle.px_types.specs.Bounds.{bound_step, bound_of, here}
-use Rattle.px_types.specs.TypeOf.{type_found, at_no_place, Finds}
+use Rattle.px_types.specs.Bounds.{bound_step, bound_of}
 use Rattle.px_types.proofs.TypeOfAnswers.{answers_ok, answers_only, answers_ill}
 use Rattle.px_types.proofs.typings.type_of.Goals as goal
 
