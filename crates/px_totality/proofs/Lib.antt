@@ -8,6 +8,7 @@ pub mod Examples
 pub mod Falling
 pub mod Instances
 pub mod Properties
+pub mod PropertiesHold
 pub mod Sizes
 pub mod Total
 pub mod TypesOfTerms

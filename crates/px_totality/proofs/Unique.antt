@@ -20,7 +20,7 @@ some_is a b o p q = let h : Some a ≡ Some b = sym p ∙ q in cc
 pair_is : {A B : Type 0} (a c : A) (b d : B) (o : Option (A × B)) → o ≡ Some (a, b) → o ≡ Some (c, d) → (a ≡ c) × (b ≡ d)
 pair_is a c b d o p q = let h : (a, b) ≡ (c, d) = some_is (a, b) (c, d) o p q in (ap (λ x. x.0) h, ap (λ x. x.1) h)
 
-lit_is : (x y : ℕ) (l : Value-F Value) → l ≡ Value-F.Lit x → l ≡ Value-F.Lit y → x ≡ y
+pub lit_is : (x y : ℕ) (l : Value-F Value) → l ≡ Value-F.Lit x → l ≡ Value-F.Lit y → x ≡ y
 lit_is x y l p q = let h : Value-F.Lit x ≡ Value-F.Lit y = sym p ∙ q in cc
 
 sums : (a b c d e f : ℕ) → a ≡ d → b ≡ e → a + b ≡ c → d + e ≡ f → c ≡ f

@@ -89,13 +89,13 @@ map_reversed f (x ∷ xs) =
         ∙ sym (reverse-append (f x ∷ []) (map f xs))
 
 -- What a value of a datatype is.
-record IsBuilt (Q : Program) (u : Value) (d : ℕ) (types : List Ty) : Type 0 where
-  k : ℕ
-  fields : List Value
-  c : ConDef
-  is : out-Value u ≡ Value-F.Con d k fields
-  found : constructor_at Q d k ≡ Some c
-  are_in : AreIn Q (tys_instance types c.fields) fields
+pub record IsBuilt (Q : Program) (u : Value) (d : ℕ) (types : List Ty) : Type 0 where
+  pub k : ℕ
+  pub fields : List Value
+  pub c : ConDef
+  pub is : out-Value u ≡ Value-F.Con d k fields
+  pub found : constructor_at Q d k ≡ Some c
+  pub are_in : AreIn Q (tys_instance types c.fields) fields
 
 built_layer : (Q : Program) (u : Value) (d : ℕ) (types : List Ty) {y : Ty-F Ty} {z : Value-F Value} → IsInLayer Q y z → y ≡ Ty-F.Con d types →
     out-Value u ≡ z → IsBuilt Q u d types
@@ -112,7 +112,7 @@ built_layer Q u d types (values.con {d = f} {k = k} {args = args} {fields = fiel
       are_in = subst (λ (types : List Ty). AreIn Q (tys_instance types c.fields) fields) given are;
     }
 
-built : (Q : Program) (u : Value) (d : ℕ) (types : List Ty) (T : Ty) → T ≡ type.Con d types → IsIn Q T u → IsBuilt Q u d types
+pub built : (Q : Program) (u : Value) (d : ℕ) (types : List Ty) (T : Ty) → T ≡ type.Con d types → IsIn Q T u → IsBuilt Q u d types
 built Q u d types T e is = built_layer Q u d types is (ap out-Ty e ∙ type.outs-Con d types) refl
 
 -- The layer has a value of the type, which is this to the parameters.
