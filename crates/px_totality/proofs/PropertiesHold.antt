@@ -1,6 +1,6 @@
 -- The properties of the built-ins hold, and what properties that a function has imply, it has.
-use Rattle.std.proofs.Common.{◌≡◌, ◌⊎◌, inl, inr, ⊎_elim, ℕ, zero, suc, ◌+◌, ◌<◌, ◌≤◌, nat_le, ◌==◌, ◌^◌, List, [], ◌∷◌, ◌++◌, length, Bool, true, false}
-use Rattle.std.proofs.Common.{Option, Some, None, slice_get, leb-true, leb-false, le-leb, eqb-true, eq-eqb, refl, sym, ap, ◌∙◌, subst, arith}
+use Rattle.std.proofs.Common.{◌≡◌, ◌⊎◌, inl, inr, ⊎_elim, ℕ, zero, suc, ◌<◌, ◌≤◌, nat_le, ◌==◌, ◌^◌, List, [], ◌∷◌, ◌++◌, Bool, true, false}
+use Rattle.std.proofs.Common.{Some, slice_get, leb-true, leb-false, le-leb, eqb-true, eq-eqb, refl, sym, ap, ◌∙◌, subst, arith}
 use Rattle.px_terms.specs.Prop.{Prop}
 use Rattle.px_terms.specs.Prop.TheVariants.{Comm, Idem, Sel, Refl, Irrefl, Sym, Antisym, Asym, Trans, Conn}
 use Rattle.px_terms.specs.declared.types.Ty.{Ty, out-Ty}
@@ -14,7 +14,7 @@ use Rattle.px_terms.specs.declared.term.Value.TheOpen.{Value-F}
 use Rattle.px_terms.specs.declared.program.ConDef.{ConDef}
 use Rattle.px_terms.specs.declared.program.Program.{Program}
 use Rattle.px_terms.specs.Types.{tys_instance}
-use Rattle.px_terms.specs.Programs.{bool_type, bool_data, constructor_at}
+use Rattle.px_terms.specs.Programs.{bool_type, bool_data}
 use Rattle.px_terms.specs.Values.{IsInLayer, IsIn, AreIn}
 use Rattle.px_terms.specs.Values as values
 use Rattle.px_terms.specs.Meaning.{truth, Gives}
@@ -24,7 +24,7 @@ use Rattle.px_terms.specs.TypedPrograms.{IsTyped}
 use Rattle.px_terms.specs.Clauses.{Subject, IsSubject, HasResult, functions_alone, clause_for}
 use Rattle.px_terms.specs.Implied.{Closure}
 use Rattle.px_terms.specs.Implied as implied
-use Rattle.px_terms.specs.Extending.{IsChecked, IsTrueOfAll, HasInProgram}
+use Rattle.px_terms.specs.Extending.{IsWellFounded, IsTrueOfAll, HasInProgram}
 use Rattle.px_totality.specs.PropertyLaws.{at_most, equal, ImpliedIsTrue, BuiltInsHave, BuiltInsLack}
 use Rattle.px_totality.proofs.Instances.{nothing_is_some, one_item}
 use Rattle.px_totality.proofs.TypesOfTerms.{constructor_of}
@@ -60,15 +60,15 @@ truths Q typed v is_in =
     go (suc zero) c fields at is are = inr (con_is v 0 1 fields is ∙ ap (value.Con 0 1) (bare c fields (one_item _ c at) are))
     go (suc (suc k)) c fields at is are = absurd (nothing_is_some c at)
 
-module _ (Q : Program) (checked : IsChecked Q) (f : Fun) where
+module _ (Q : Program) (founded : IsWellFounded Q) (f : Fun) where
   module _ (s : Subject) (subject : IsSubject Q (functions_alone 0 []) f [] s) (is_bool : s.result ≡ bool_type) where
     -- what the function gives is a truth value
-    gives_truth : (ls : List Value) (a b v : Value) → AreIn Q s.leading ls → IsIn Q s.last a → IsIn Q s.last b → Ap Q checked f s subject ls a b v →
+    gives_truth : (ls : List Value) (a b v : Value) → AreIn Q s.leading ls → IsIn Q s.last a → IsIn Q s.last b → Ap Q founded f s subject ls a b v →
         (v ≡ truth false) ⊎ (v ≡ truth true)
     gives_truth ls a b v leading in_a in_b given =
-        let it : Result Q checked f s subject ls a b = result_of Q checked f s subject ls a b leading in_a in_b in
-        let same : it.v ≡ v = one_result Q checked f s subject ls a b it.v v it.is given in
-        truths Q checked.typed v (subst (λ (v : Value). IsIn Q bool_type v) same (subst (λ (T : Ty). IsIn Q T it.v) is_bool it.in_type))
+        let it : Result Q founded f s subject ls a b = result_of Q founded f s subject ls a b leading in_a in_b in
+        let same : it.v ≡ v = one_result Q founded f s subject ls a b it.v v it.is given in
+        truths Q founded.typed v (subst (λ (v : Value). IsIn Q bool_type v) same (subst (λ (T : Ty). IsIn Q T it.v) is_bool it.in_type))
 
     -- the value is the one truth, since it is not the other
     other_truth : (v w u : Value) → (v ≡ w) ⊎ (v ≡ u) → (v ≡ u → v ≡ w) → v ≡ w
@@ -78,17 +78,17 @@ module _ (Q : Program) (checked : IsChecked Q) (f : Fun) where
   sel_gives_idem : HasInProgram Q f Sel → HasInProgram Q f Idem
   sel_gives_idem h =
       let s : Subject = h.subject in
-      let says : Says Q checked f s h.is_subject Idem =
-          λ ls x v leading in_x given. ⊎_elim (λ is. is) (λ is. is) (sel_says Q checked f s h.is_subject h.is_true ls x x v leading in_x in_x given) in
-      record { subject = s; is_subject = h.is_subject; result = h.result; is_true = says_idem Q checked f s h.is_subject says }
+      let says : Says Q founded f s h.is_subject Idem =
+      λ ls x v leading in_x given. ⊎_elim (λ is. is) (λ is. is) (sel_says Q founded f s h.is_subject h.is_true ls x x v leading in_x in_x given) in
+      record { subject = s; is_subject = h.is_subject; result = h.result; is_true = says_idem Q founded f s h.is_subject says }
 
   conn_gives_refl : HasInProgram Q f Conn → HasInProgram Q f Refl
   conn_gives_refl h =
       let s : Subject = h.subject in
-      let says : Says Q checked f s h.is_subject Refl = λ ls x v leading in_x given.
-          flip v (gives_truth s h.is_subject h.result ls x x v leading in_x in_x given)
-          (λ is. conn_says Q checked f s h.is_subject h.is_true ls x x v leading in_x in_x (subst (Ap Q checked f s h.is_subject ls x x) is given) given) in
-      record { subject = s; is_subject = h.is_subject; result = h.result; is_true = says_refl Q checked f s h.is_subject says }
+      let says : Says Q founded f s h.is_subject Refl = λ ls x v leading in_x given.
+      flip v (gives_truth s h.is_subject h.result ls x x v leading in_x in_x given)
+      (λ is. conn_says Q founded f s h.is_subject h.is_true ls x x v leading in_x in_x (subst (Ap Q founded f s h.is_subject ls x x) is given) given) in
+      record { subject = s; is_subject = h.is_subject; result = h.result; is_true = says_refl Q founded f s h.is_subject says }
     where
       flip : (v : Value) → (v ≡ truth false) ⊎ (v ≡ truth true) → (v ≡ truth false → v ≡ truth true) → v ≡ truth true
       flip v (inl is) from = from is
@@ -97,42 +97,42 @@ module _ (Q : Program) (checked : IsChecked Q) (f : Fun) where
   asym_gives_irrefl : HasInProgram Q f Asym → HasInProgram Q f Irrefl
   asym_gives_irrefl h =
       let s : Subject = h.subject in
-      let says : Says Q checked f s h.is_subject Irrefl = λ ls x v leading in_x given.
-          other_truth s h.is_subject h.result v (truth false) (truth true) (gives_truth s h.is_subject h.result ls x x v leading in_x in_x given)
-          (λ is. asym_says Q checked f s h.is_subject h.is_true ls x x v leading in_x in_x (subst (Ap Q checked f s h.is_subject ls x x) is given) given) in
-      record { subject = s; is_subject = h.is_subject; result = h.result; is_true = says_irrefl Q checked f s h.is_subject says }
+      let says : Says Q founded f s h.is_subject Irrefl = λ ls x v leading in_x given.
+      other_truth s h.is_subject h.result v (truth false) (truth true) (gives_truth s h.is_subject h.result ls x x v leading in_x in_x given)
+      (λ is. asym_says Q founded f s h.is_subject h.is_true ls x x v leading in_x in_x (subst (Ap Q founded f s h.is_subject ls x x) is given) given) in
+      record { subject = s; is_subject = h.is_subject; result = h.result; is_true = says_irrefl Q founded f s h.is_subject says }
 
   asym_gives_antisym : HasInProgram Q f Asym → HasInProgram Q f Antisym
   asym_gives_antisym h =
       let s : Subject = h.subject in
-      let says : Says Q checked f s h.is_subject Antisym =
-          λ ls x y leading in_x in_y one two. absurd
-          (not_same (sym (asym_says Q checked f s h.is_subject h.is_true ls x y (truth true) leading in_x in_y one two))) in
-      record { subject = s; is_subject = h.is_subject; result = h.result; is_true = says_antisym Q checked f s h.is_subject says }
+      let says : Says Q founded f s h.is_subject Antisym =
+      λ ls x y leading in_x in_y one two. absurd
+      (not_same (sym (asym_says Q founded f s h.is_subject h.is_true ls x y (truth true) leading in_x in_y one two))) in
+      record { subject = s; is_subject = h.is_subject; result = h.result; is_true = says_antisym Q founded f s h.is_subject says }
 
   irrefl_and_trans_give_asym : HasInProgram Q f Irrefl → HasInProgram Q f Trans → HasInProgram Q f Asym
   irrefl_and_trans_give_asym i t =
       let s : Subject = t.subject in
       let same : i.subject ≡ s = one_subject Q f i.subject s i.is_subject t.is_subject in
       let irrefl : IsTrueOfAll Q [] [] (clause_for s Irrefl 0 []) = subst (λ (s : Subject). IsTrueOfAll Q [] [] (clause_for s Irrefl 0 [])) same i.is_true in
-      let says : Says Q checked f s t.is_subject Asym = λ ls x y v leading in_x in_y one two.
-          other_truth s t.is_subject t.result v (truth false) (truth true) (gives_truth s t.is_subject t.result ls y x v leading in_y in_x two)
-          (λ is.
-              let it : Result Q checked f s t.is_subject ls x x = result_of Q checked f s t.is_subject ls x x leading in_x in_x in
-              let back : Ap Q checked f s t.is_subject ls y x (truth true) = subst (Ap Q checked f s t.is_subject ls y x) is two in
-              let yes : it.v ≡ truth true = trans_says Q checked f s t.is_subject t.is_true ls x y x it.v leading in_x in_y in_x one back it.is in
-              let never : it.v ≡ truth false = irrefl_says Q checked f s t.is_subject irrefl ls x it.v leading in_x it.is in
-              absurd (not_same (sym never ∙ yes))) in
-      record { subject = s; is_subject = t.is_subject; result = t.result; is_true = says_asym Q checked f s t.is_subject says }
+      let says : Says Q founded f s t.is_subject Asym = λ ls x y v leading in_x in_y one two.
+      other_truth s t.is_subject t.result v (truth false) (truth true) (gives_truth s t.is_subject t.result ls y x v leading in_y in_x two)
+      (λ is.
+      let it : Result Q founded f s t.is_subject ls x x = result_of Q founded f s t.is_subject ls x x leading in_x in_x in
+      let back : Ap Q founded f s t.is_subject ls y x (truth true) = subst (Ap Q founded f s t.is_subject ls y x) is two in
+      let yes : it.v ≡ truth true = trans_says Q founded f s t.is_subject t.is_true ls x y x it.v leading in_x in_y in_x one back it.is in
+      let never : it.v ≡ truth false = irrefl_says Q founded f s t.is_subject irrefl ls x it.v leading in_x it.is in
+      absurd (not_same (sym never ∙ yes))) in
+      record { subject = s; is_subject = t.is_subject; result = t.result; is_true = says_asym Q founded f s t.is_subject says }
 
 pub implied_is_true : ImpliedIsTrue
-implied_is_true Q checked f _ (implied.known has) = has
-implied_is_true Q checked f _ (implied.sel_gives_idem from) = sel_gives_idem Q checked f (implied_is_true Q checked f Sel from)
-implied_is_true Q checked f _ (implied.conn_gives_refl from) = conn_gives_refl Q checked f (implied_is_true Q checked f Conn from)
-implied_is_true Q checked f _ (implied.asym_gives_irrefl from) = asym_gives_irrefl Q checked f (implied_is_true Q checked f Asym from)
-implied_is_true Q checked f _ (implied.asym_gives_antisym from) = asym_gives_antisym Q checked f (implied_is_true Q checked f Asym from)
-implied_is_true Q checked f _ (implied.irrefl_and_trans_give_asym from other) =
-    irrefl_and_trans_give_asym Q checked f (implied_is_true Q checked f Irrefl from) (implied_is_true Q checked f Trans other)
+implied_is_true Q founded f _ (implied.known has) = has
+implied_is_true Q founded f _ (implied.sel_gives_idem from) = sel_gives_idem Q founded f (implied_is_true Q founded f Sel from)
+implied_is_true Q founded f _ (implied.conn_gives_refl from) = conn_gives_refl Q founded f (implied_is_true Q founded f Conn from)
+implied_is_true Q founded f _ (implied.asym_gives_irrefl from) = asym_gives_irrefl Q founded f (implied_is_true Q founded f Asym from)
+implied_is_true Q founded f _ (implied.asym_gives_antisym from) = asym_gives_antisym Q founded f (implied_is_true Q founded f Asym from)
+implied_is_true Q founded f _ (implied.irrefl_and_trans_give_asym from other) =
+    irrefl_and_trans_give_asym Q founded f (implied_is_true Q founded f Irrefl from) (implied_is_true Q founded f Trans other)
 
 -- a comparison of two words, as what properties speak of
 abbrev comparison : Fun → Subject
@@ -182,74 +182,74 @@ is_false_of true e = absurd (not_same e)
 same_word : (a b : Value) (x y : ℕ) → out-Value a ≡ Value-F.Lit x → out-Value b ≡ Value-F.Lit y → x ≡ y → a ≡ b
 same_word a b x y left right same = sym (roll-out-Value a) ∙ ap roll-Value (left ∙ ap Value-F.Lit same ∙ sym right) ∙ roll-out-Value b
 
-module _ (Q : Program) (checked : IsChecked Q) where
+module _ (Q : Program) (founded : IsWellFounded Q) where
   word : (v : Value) → IsIn Q type.Word v → IsWord v
   word v is_in = word_of Q v type.Word refl is_in
 
   at_most_is : (ls : List Value) (a b v : Value) → AreIn Q [] ls → (in_a : IsIn Q type.Word a) (in_b : IsIn Q type.Word b) →
-      Ap Q checked at_most (comparison at_most) (at_most_subject Q) ls a b v → v ≡ truth (nat_le (word a in_a).word (word b in_b).word)
+      Ap Q founded at_most (comparison at_most) (at_most_subject Q) ls a b v → v ≡ truth (nat_le (word a in_a).word (word b in_b).word)
   at_most_is ls a b v leading in_a in_b given =
       compared nat_le ls a b (word a in_a).word (word b in_b).word v given.count (no_values Q [] ls leading refl) (word a in_a).is (word b in_b).is
       (gift_rests_on Q at_most [] (ls ++ a ∷ b ∷ []) v given.count given.gives)
 
   equal_is : (ls : List Value) (a b v : Value) → AreIn Q [] ls → (in_a : IsIn Q type.Word a) (in_b : IsIn Q type.Word b) →
-      Ap Q checked equal (comparison equal) (equal_subject Q) ls a b v → v ≡ truth ((word a in_a).word == (word b in_b).word)
+      Ap Q founded equal (comparison equal) (equal_subject Q) ls a b v → v ≡ truth ((word a in_a).word == (word b in_b).word)
   equal_is ls a b v leading in_a in_b given =
       compared (λ x y. x == y) ls a b (word a in_a).word (word b in_b).word v given.count (no_values Q [] ls leading refl) (word a in_a).is (word b in_b).is
       (gift_rests_on Q equal [] (ls ++ a ∷ b ∷ []) v given.count given.gives)
 
   -- of two words the first is at most the second, where `wle` says so
   below : (ls : List Value) (a b : Value) → AreIn Q [] ls → (in_a : IsIn Q type.Word a) (in_b : IsIn Q type.Word b) →
-      Ap Q checked at_most (comparison at_most) (at_most_subject Q) ls a b (truth true) → (word a in_a).word ≤ (word b in_b).word
+      Ap Q founded at_most (comparison at_most) (at_most_subject Q) ls a b (truth true) → (word a in_a).word ≤ (word b in_b).word
   below ls a b leading in_a in_b given =
       leb-true (word a in_a).word (word b in_b).word
       (is_true_of (nat_le (word a in_a).word (word b in_b).word) (at_most_is ls a b (truth true) leading in_a in_b given))
 
   -- two words are the same, where `weq` says so
   same : (ls : List Value) (a b : Value) → AreIn Q [] ls → (in_a : IsIn Q type.Word a) (in_b : IsIn Q type.Word b) →
-      Ap Q checked equal (comparison equal) (equal_subject Q) ls a b (truth true) → (word a in_a).word ≡ (word b in_b).word
+      Ap Q founded equal (comparison equal) (equal_subject Q) ls a b (truth true) → (word a in_a).word ≡ (word b in_b).word
   same ls a b leading in_a in_b given =
       eqb-true (word a in_a).word (word b in_b).word
       (is_true_of ((word a in_a).word == (word b in_b).word) (equal_is ls a b (truth true) leading in_a in_b given))
 
-  at_most_has : (p : Prop) → HasResult (comparison at_most) p → IsTrue Q checked at_most (comparison at_most) (at_most_subject Q) p → HasInProgram Q at_most p
+  at_most_has : (p : Prop) → HasResult (comparison at_most) p → IsTrue Q founded at_most (comparison at_most) (at_most_subject Q) p → HasInProgram Q at_most p
   at_most_has p result is_true = record { subject = comparison at_most; is_subject = at_most_subject Q; result = result; is_true = is_true }
 
-  equal_has : (p : Prop) → HasResult (comparison equal) p → IsTrue Q checked equal (comparison equal) (equal_subject Q) p → HasInProgram Q equal p
+  equal_has : (p : Prop) → HasResult (comparison equal) p → IsTrue Q founded equal (comparison equal) (equal_subject Q) p → HasInProgram Q equal p
   equal_has p result is_true = record { subject = comparison equal; is_subject = equal_subject Q; result = result; is_true = is_true }
 
   of_at_most : (p : Prop) → implied.HasAtMost p → HasInProgram Q at_most p
-  of_at_most _ implied.refl = at_most_has Refl refl (says_refl Q checked at_most (comparison at_most) (at_most_subject Q) (λ ls x v leading in_x given.
+  of_at_most _ implied.refl = at_most_has Refl refl (says_refl Q founded at_most (comparison at_most) (at_most_subject Q) (λ ls x v leading in_x given.
       let n : ℕ = (word x in_x).word in
       at_most_is ls x x v leading in_x in_x given ∙ ap truth (le-leb n n (omega arith))))
   of_at_most _ implied.antisym =
-      at_most_has Antisym refl (says_antisym Q checked at_most (comparison at_most) (at_most_subject Q) (λ ls x y leading in_x in_y one two.
+      at_most_has Antisym refl (says_antisym Q founded at_most (comparison at_most) (at_most_subject Q) (λ ls x y leading in_x in_y one two.
       let up : (word x in_x).word ≤ (word y in_y).word = below ls x y leading in_x in_y one in
       let down : (word y in_y).word ≤ (word x in_x).word = below ls y x leading in_y in_x two in
       same_word x y (word x in_x).word (word y in_y).word (word x in_x).is (word y in_y).is (omega (arith, up, down))))
   of_at_most _ implied.trans =
-      at_most_has Trans refl (says_trans Q checked at_most (comparison at_most) (at_most_subject Q) (λ ls x y z v leading in_x in_y in_z one two given.
+      at_most_has Trans refl (says_trans Q founded at_most (comparison at_most) (at_most_subject Q) (λ ls x y z v leading in_x in_y in_z one two given.
       let up : (word x in_x).word ≤ (word y in_y).word = below ls x y leading in_x in_y one in
       let more : (word y in_y).word ≤ (word z in_z).word = below ls y z leading in_y in_z two in
       at_most_is ls x z v leading in_x in_z given ∙ ap truth (le-leb (word x in_x).word (word z in_z).word (omega (arith, up, more)))))
   of_at_most _ implied.conn =
-      at_most_has Conn refl (says_conn Q checked at_most (comparison at_most) (at_most_subject Q) (λ ls x y v leading in_x in_y one given.
+      at_most_has Conn refl (says_conn Q founded at_most (comparison at_most) (at_most_subject Q) (λ ls x y v leading in_x in_y one given.
       let over : (word y in_y).word < (word x in_x).word =
-          leb-false (word x in_x).word (word y in_y).word
-          (is_false_of (nat_le (word x in_x).word (word y in_y).word) (at_most_is ls x y (truth false) leading in_x in_y one)) in
+      leb-false (word x in_x).word (word y in_y).word
+      (is_false_of (nat_le (word x in_x).word (word y in_y).word) (at_most_is ls x y (truth false) leading in_x in_y one)) in
       at_most_is ls y x v leading in_y in_x given ∙ ap truth (le-leb (word y in_y).word (word x in_x).word (omega (arith, over)))))
 
   of_equal : (p : Prop) → implied.HasEqual p → HasInProgram Q equal p
-  of_equal _ implied.refl = equal_has Refl refl (says_refl Q checked equal (comparison equal) (equal_subject Q) (λ ls x v leading in_x given.
+  of_equal _ implied.refl = equal_has Refl refl (says_refl Q founded equal (comparison equal) (equal_subject Q) (λ ls x v leading in_x given.
       let n : ℕ = (word x in_x).word in
       equal_is ls x x v leading in_x in_x given ∙ ap truth (eq-eqb n n refl)))
-  of_equal _ implied.sym = equal_has Sym refl (says_sym Q checked equal (comparison equal) (equal_subject Q) (λ ls x y v leading in_x in_y one given.
+  of_equal _ implied.sym = equal_has Sym refl (says_sym Q founded equal (comparison equal) (equal_subject Q) (λ ls x y v leading in_x in_y one given.
       let is : (word x in_x).word ≡ (word y in_y).word = same ls x y leading in_x in_y one in
       equal_is ls y x v leading in_y in_x given ∙ ap truth (eq-eqb (word y in_y).word (word x in_x).word (sym is))))
-  of_equal _ implied.antisym = equal_has Antisym refl (says_antisym Q checked equal (comparison equal) (equal_subject Q) (λ ls x y leading in_x in_y one two.
+  of_equal _ implied.antisym = equal_has Antisym refl (says_antisym Q founded equal (comparison equal) (equal_subject Q) (λ ls x y leading in_x in_y one two.
       same_word x y (word x in_x).word (word y in_y).word (word x in_x).is (word y in_y).is (same ls x y leading in_x in_y one)))
   of_equal _ implied.trans =
-      equal_has Trans refl (says_trans Q checked equal (comparison equal) (equal_subject Q) (λ ls x y z v leading in_x in_y in_z one two given.
+      equal_has Trans refl (says_trans Q founded equal (comparison equal) (equal_subject Q) (λ ls x y z v leading in_x in_y in_z one two given.
       let first : (word x in_x).word ≡ (word y in_y).word = same ls x y leading in_x in_y one in
       let second : (word y in_y).word ≡ (word z in_z).word = same ls y z leading in_y in_z two in
       equal_is ls x z v leading in_x in_z given ∙ ap truth (eq-eqb (word x in_x).word (word z in_z).word (first ∙ second))))
@@ -264,16 +264,16 @@ module _ (Q : Program) (checked : IsChecked Q) where
       let s : Subject = comparison at_most in
       let one : h.subject ≡ s = one_subject Q at_most h.subject s h.is_subject (at_most_subject Q) in
       let is_true : IsTrueOfAll Q [] [] (clause_for s Comm 0 []) = subst (λ (s : Subject). IsTrueOfAll Q [] [] (clause_for s Comm 0 [])) one h.is_true in
-      let up : Ap Q checked at_most s (at_most_subject Q) [] (value.Lit 0) (value.Lit 1) (truth true) = record {
+      let up : Ap Q founded at_most s (at_most_subject Q) [] (value.Lit 0) (value.Lit 1) (truth true) = record {
         count = 0;
         gives = meaning.at_most {x = 0} {y = 1} (value.outs-Lit 0) (value.outs-Lit 1) refl;
       } in
-      let down : Ap Q checked at_most s (at_most_subject Q) [] (value.Lit 1) (value.Lit 0) (truth false) = record {
+      let down : Ap Q founded at_most s (at_most_subject Q) [] (value.Lit 1) (value.Lit 0) (truth false) = record {
         count = 0;
         gives = meaning.at_most {x = 1} {y = 0} (value.outs-Lit 1) (value.outs-Lit 0) refl;
       } in
-      not_same (sym (comm_says Q checked at_most s (at_most_subject Q) is_true [] (value.Lit 0) (value.Lit 1) (truth true) (truth false) values.none
-          (a_word 0 (omega arith)) (a_word 1 (omega arith)) up down))
+      not_same (sym (comm_says Q founded at_most s (at_most_subject Q) is_true [] (value.Lit 0) (value.Lit 1) (truth true) (truth false) values.none
+      (a_word 0 (omega arith)) (a_word 1 (omega arith)) up down))
 
   not_idempotent : HasInProgram Q at_most Idem → ⊥
   not_idempotent h =

@@ -1,7 +1,7 @@
 -- What the definitions say of small programs.
 use Rattle.std.specs.Prelude.{[], ◌∷◌}
 use Rattle.px_terms.specs.Prop.TheVariants.{Idem}
-use Rattle.px_terms.specs.Extending.{IsChecked, IsExtension, HoldsInProgram, HoldsInExtensions}
+use Rattle.px_terms.specs.Extending.{IsWellFounded, IsExtension, HoldsInProgram, HoldsInExtensions}
 use Rattle.px_totality.specs.Examples.{same_program, longer_program, same_clause, empty_type, empty_program, false_clause}
 
 -- Of any f the clause same(f, a) = a holds in the program of `same` alone, since no function there fits. The program with `never`
@@ -18,6 +18,6 @@ SameOfIdempotentHolds = HoldsInExtensions (same_program (Idem ∷ [])) (same_cla
 
 -- The program of a datatype without values is typed and descends; for all of its values False = True, and without them not.
 pub record EmptyHoldsOfNothing : Type 0 where
-  pub checked : IsChecked empty_program
+  pub founded : IsWellFounded empty_program
   pub of_nothing : HoldsInExtensions empty_program (false_clause (empty_type ∷ []))
   pub of_all : HoldsInExtensions empty_program (false_clause []) → ⊥

@@ -6,7 +6,7 @@ use Rattle.px_terms.specs.Prop.TheVariants.{Comm, Idem}
 use Rattle.px_terms.specs.declared.types.Fun.{Fun}
 use Rattle.px_terms.specs.declared.program.Program.{Program}
 use Rattle.px_terms.specs.Implied.{Closure, HasAtMost, HasEqual}
-use Rattle.px_terms.specs.Extending.{IsChecked, HasInProgram}
+use Rattle.px_terms.specs.Extending.{IsWellFounded, HasInProgram}
 
 -- the comparison `wle`
 abbrev pub at_most : Fun
@@ -18,14 +18,14 @@ equal = record { head = head.Weq; types = [] }
 
 -- what properties that a function has imply, it has
 abbrev pub ImpliedIsTrue : Type 0
-ImpliedIsTrue = (Q : Program) → IsChecked Q → (f : Fun) (p : Prop) → Closure (HasInProgram Q f) p → HasInProgram Q f p
+ImpliedIsTrue = (Q : Program) → IsWellFounded Q → (f : Fun) (p : Prop) → Closure (HasInProgram Q f) p → HasInProgram Q f p
 
 -- the built-ins have the properties that are said of them
 pub record BuiltInsHave : Type 0 where
-  pub of_at_most : (Q : Program) → IsChecked Q → (p : Prop) → HasAtMost p → HasInProgram Q at_most p
-  pub of_equal : (Q : Program) → IsChecked Q → (p : Prop) → HasEqual p → HasInProgram Q equal p
+  pub of_at_most : (Q : Program) → IsWellFounded Q → (p : Prop) → HasAtMost p → HasInProgram Q at_most p
+  pub of_equal : (Q : Program) → IsWellFounded Q → (p : Prop) → HasEqual p → HasInProgram Q equal p
 
 -- `wle` lacks a property that its values break, and one that does not fit its type
 pub record BuiltInsLack : Type 0 where
-  pub broken : (Q : Program) → IsChecked Q → HasInProgram Q at_most Comm → ⊥
-  pub unfit : (Q : Program) → IsChecked Q → HasInProgram Q at_most Idem → ⊥
+  pub broken : (Q : Program) → IsWellFounded Q → HasInProgram Q at_most Comm → ⊥
+  pub unfit : (Q : Program) → IsWellFounded Q → HasInProgram Q at_most Idem → ⊥
