@@ -214,7 +214,7 @@ record Given (Q : Program) (h : Fun) (ws : List Value) (v : Value) : Type 0 wher
   count : ℕ
   gives : Gives Q h [] ws v count
 
-nothing_meant : (types : List Ty) (funs gs : List Fun) → FunsMean types funs [] gs → gs ≡ []
+pub nothing_meant : (types : List Ty) (funs gs : List Fun) → FunsMean types funs [] gs → gs ≡ []
 nothing_meant types funs [] mean = refl
 nothing_meant types funs (g ∷ gs) mean = absurd mean
 

@@ -1,6 +1,7 @@
 pub mod Applied
 pub mod Calls
 pub mod Closed
+pub mod Declared
 pub mod EachHasValue
 pub mod EachIsTotal
 pub mod ExamplePrograms
