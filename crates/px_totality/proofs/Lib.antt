@@ -6,6 +6,7 @@ pub mod EachHasValue
 pub mod EachIsTotal
 pub mod ExamplePrograms
 pub mod Examples
+pub mod Extensions
 pub mod Falling
 pub mod Instances
 pub mod Properties

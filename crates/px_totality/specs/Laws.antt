@@ -13,7 +13,7 @@ use Rattle.px_terms.specs.Types.{ty_instance, tys_instance}
 use Rattle.px_terms.specs.Values.{IsIn, AreIn}
 use Rattle.px_terms.specs.Meaning.{Gives, Means}
 use Rattle.px_terms.specs.Typing.{Place, IsType, AreTypes, HasType}
-use Rattle.px_terms.specs.Extending.{IsWellFounded, FitsType, FitTypes, FitValues}
+use Rattle.px_terms.specs.Extending.{IsWellFounded, IsExtension, FitsType, FitTypes, FitValues}
 
 -- Of what is said of values with their counts there is exactly one, and the value is in the type.
 pub record ExactlyOne (Q : Program) (T : Ty) (IsGiven : Value → ℕ → Type 0) : Type 0 where
@@ -48,3 +48,8 @@ EachTermHasValue =
     (Q : Program) → IsWellFounded Q → (place : Place) (context : Context) → IsContext Q context → (t : Term) (T : Ty) → HasType Q place context t T →
     (types : List Ty) → length types ≡ context.tparams → AreTypes Q 0 types → (funs : List Fun) → FitTypes Q types context.funs funs →
     (rho : List Value) → FitValues Q types context.vars rho → ExactlyOne Q (ty_instance types T) (Means Q types funs rho t)
+
+-- A program that is typed and descends is an extension of itself, and an extension of an extension is one.
+pub record ExtensionsCompose : Type 0 where
+  pub itself : (P : Program) → IsWellFounded P → IsExtension P P
+  pub further : (P Q R : Program) → IsExtension R Q → IsExtension Q P → IsExtension R P
