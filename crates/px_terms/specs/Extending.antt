@@ -21,8 +21,8 @@ pub record BeginsWith {A : Type 0} (whole front : List A) : Type 0 where
   pub more : List A
   pub is : whole ≡ front ++ more
 
--- The program is typed, and every definition of it descends.
-pub record IsChecked (Q : Program) : Type 0 where
+-- A well-founded program: it is typed, and every definition of it descends.
+pub record IsWellFounded (Q : Program) : Type 0 where
   pub typed : IsTyped Q
   pub descends : AllDescend Q
 
@@ -33,7 +33,7 @@ pub record IsExtension (Q P : Program) : Type 0 where
   pub lemmas : BeginsWith Q.lemmas P.lemmas
   pub declared : BeginsWith Q.declared P.declared
   pub replicas : BeginsWith Q.replicas P.replicas
-  pub checked : IsChecked Q
+  pub founded : IsWellFounded Q
 
 -- The function is one of Q that takes no functions, a built-in or a definition at ground types, and has the wanted type with
 -- these types put in.

@@ -1,27 +1,25 @@
 -- A property's sides, at the values of its variables: what a function of two last parameters gives is its term's value.
-use Rattle.std.proofs.Common.{◌≡◌, ℕ, zero, suc, ◌+◌, ◌<◌, List, [], ◌∷◌, ◌++◌, map, replicate, length, Option, Some, None, slice_get, refl, sym, ap, ◌∙◌, subst, subst₂, arith}
-use Rattle.std.proofs.lemmas.List.{append-nil, append_assoc, nil_from_length}
-use Rattle.px_terms.specs.Prop.{Prop}
+use Rattle.std.proofs.Common.{◌≡◌, ℕ, zero, suc, ◌+◌, List, [], ◌∷◌, ◌++◌, map, length, Some, slice_get, refl, sym, ap, ◌∙◌}
+use Rattle.std.proofs.Common.{subst, arith}
+use Rattle.std.proofs.lemmas.List.{nil_from_length}
 use Rattle.px_terms.specs.declared.types.Ty.{Ty}
 use Rattle.px_terms.specs.declared.types.Ty.TheVariants as type
 use Rattle.px_terms.specs.declared.types.Ty.TheViews.{roll-Ty}
 use Rattle.px_terms.specs.declared.types.Ty.TheOpen.{Ty-F}
 use Rattle.px_terms.specs.declared.types.Ty.TheFolds.{ind-Ty, map-Ty, fold-roll-Ty}
-use Rattle.px_terms.specs.declared.types.FnType.{FnType}
 use Rattle.px_terms.specs.declared.types.Fun.{Fun}
-use Rattle.px_terms.specs.declared.term.Term.{Term, out-Term}
+use Rattle.px_terms.specs.declared.term.Term.{Term}
 use Rattle.px_terms.specs.declared.term.Term.TheOpen.{Term-F}
 use Rattle.px_terms.specs.declared.term.Term.TheVariants as term
 use Rattle.px_terms.specs.declared.term.Value.{Value}
-use Rattle.px_terms.specs.declared.clause.Equation.{Equation}
 use Rattle.px_terms.specs.declared.program.Program.{Program}
 use Rattle.px_terms.specs.Types.{numbers_from, ty_instance_step, ty_instance, tys_instance}
 use Rattle.px_terms.specs.Values.{IsIn, AreIn}
 use Rattle.px_terms.specs.Values as values
-use Rattle.px_terms.specs.Meaning.{FunMeans, FunsMean, MeansOf, MeanAll, Means, Gives, SameValue, call, none, more}
+use Rattle.px_terms.specs.Meaning.{FunMeans, FunsMean, MeanAll, Means, Gives, call, none, more}
 use Rattle.px_terms.specs.Clauses.{Subject, IsSubject, functions_alone, applied, equals}
 use Rattle.px_terms.specs.Holding.{IsTrueAt}
-use Rattle.px_terms.specs.Extending.{IsChecked}
+use Rattle.px_terms.specs.Extending.{IsWellFounded}
 use Rattle.px_totality.proofs.Instances.{nothing_is_some}
 use Rattle.px_totality.proofs.Total.{GivesIn, IsTotal}
 use Rattle.px_totality.proofs.Valued.{are_in_append, as_many}
@@ -54,7 +52,10 @@ stays = ind-Ty Stays (λ x y is.
 -- and so do types
 pub nothing_put_in : (types : List Ty) → tys_instance [] types ≡ types
 nothing_put_in [] = refl
-nothing_put_in (T ∷ types) = let first : ty_instance [] T ≡ T = stays T in let others : tys_instance [] types ≡ types = nothing_put_in types in λ i. first i ∷ others i
+nothing_put_in (T ∷ types) =
+    let first : ty_instance [] T ≡ T = stays T in
+    let others : tys_instance [] types ≡ types = nothing_put_in types in
+    λ i. first i ∷ others i
 
 -- The values are those of the front types, and then those of the others.
 pub record Split (Q : Program) (front others : List Ty) (rho : List Value) : Type 0 where
@@ -97,7 +98,8 @@ variables_mean Q rho (v ∷ vs) start others ws at rest =
     let zeroth : start + 0 ≡ start = omega arith in
     let here : slice_get rho start ≡ Some v = ap (slice_get rho) (sym zeroth) ∙ at 0 v refl in
     let later : AllMean Q rho (map (λ (i : ℕ). term.Free i) (numbers_from (start + 1) (length vs)) ++ others) (vs ++ ws) =
-        variables_mean Q rho vs (start + 1) others ws (λ i w there. let next : (start + 1) + i ≡ start + suc i = omega arith in ap (slice_get rho) next ∙ at (suc i) w there) rest in
+    variables_mean Q rho vs (start + 1) others ws
+    (λ i w there. let next : (start + 1) + i ≡ start + suc i = omega arith in ap (slice_get rho) next ∙ at (suc i) w there) rest in
     record { count = 0 + later.count; mean = more (variable_means Q [] [] rho start v here) later.mean refl }
 
 -- what stands in the first list stands in both
@@ -115,9 +117,9 @@ in_second (y ∷ xs) ys (suc n) i x long at =
     let next : suc n + i ≡ suc (n + i) = omega arith in
     ap (slice_get (y ∷ xs ++ ys)) next ∙ in_second xs ys n i x rest at
 
-module _ (Q : Program) (checked : IsChecked Q) (f : Fun) (s : Subject) (subject : IsSubject Q (functions_alone 0 []) f [] s) where
+module _ (Q : Program) (founded : IsWellFounded Q) (f : Fun) (s : Subject) (subject : IsSubject Q (functions_alone 0 []) f [] s) where
   is_total : IsTotal Q f subject.params s.result
-  is_total = function_is_total Q checked.typed checked.descends subject.function (nil_from_length subject.takes (sym subject.taken))
+  is_total = function_is_total Q founded.typed founded.descends subject.function (nil_from_length subject.takes (sym subject.taken))
 
   -- The function gives this value on the leading values and the last two.
   pub record Ap (ls : List Value) (a b v : Value) : Type 0 where
@@ -133,7 +135,8 @@ module _ (Q : Program) (checked : IsChecked Q) (f : Fun) (s : Subject) (subject 
   pub result_of : (ls : List Value) (a b : Value) → AreIn Q s.leading ls → IsIn Q s.last a → IsIn Q s.last b → Result ls a b
   result_of ls a b leading first second =
       let are : AreIn Q subject.params (ls ++ a ∷ b ∷ []) =
-          subst (λ (types : List Ty). AreIn Q types (ls ++ a ∷ b ∷ [])) (sym subject.shape) (are_in_append Q leading (values.more first (values.more second values.none))) in
+      subst (λ (types : List Ty). AreIn Q types (ls ++ a ∷ b ∷ [])) (sym subject.shape)
+      (are_in_append Q leading (values.more first (values.more second values.none))) in
       let it : GivesIn Q f [] (ls ++ a ∷ b ∷ []) s.result = is_total.at (ls ++ a ∷ b ∷ []) are in
       record { v = it.value; is = record { count = it.count; gives = it.gives }; in_type = it.in_type }
 
@@ -162,16 +165,25 @@ module _ (Q : Program) (checked : IsChecked Q) (f : Fun) (s : Subject) (subject 
     -- the function on terms means what it gives on their values
     pub applied_has : (ta tb : Term) (a b v : Value) → Has ta a → Has tb b → Ap ls a b v → Has (applied s ta tb) v
     applied_has ta tb a b v one two given =
-        let lasts : AllMean Q rho (ta ∷ tb ∷ []) (a ∷ b ∷ []) = record { count = one.count + (two.count + 0); mean = more one.means (more two.means none refl) refl } in
-        let at : (i : ℕ) (v : Value) → slice_get ls i ≡ Some v → slice_get rho (0 + i) ≡ Some v = λ i v there. let same : 0 + i ≡ i = omega arith in ap (slice_get rho) same ∙ in_first ls xs i v there in
-        let all : AllMean Q rho (map (λ (i : ℕ). term.Free i) (numbers_from 0 (length ls)) ++ ta ∷ tb ∷ []) (ls ++ a ∷ b ∷ []) = variables_mean Q rho ls 0 (ta ∷ tb ∷ []) (a ∷ b ∷ []) at lasts in
+        let lasts : AllMean Q rho (ta ∷ tb ∷ []) (a ∷ b ∷ []) = record {
+          count = one.count + (two.count + 0);
+          mean = more one.means (more two.means none refl) refl;
+        } in
+        let at : (i : ℕ) (v : Value) → slice_get ls i ≡ Some v → slice_get rho (0 + i) ≡ Some v =
+        λ i v there. let same : 0 + i ≡ i = omega arith in ap (slice_get rho) same ∙ in_first ls xs i v there in
+        let all : AllMean Q rho (map (λ (i : ℕ). term.Free i) (numbers_from 0 (length ls)) ++ ta ∷ tb ∷ []) (ls ++ a ∷ b ∷ []) =
+        variables_mean Q rho ls 0 (ta ∷ tb ∷ []) (a ∷ b ∷ []) at lasts in
         let args : List Term = map (λ (i : ℕ). term.Free i) (numbers_from 0 (length s.leading)) ++ ta ∷ tb ∷ [] in
-        let mean : MeanAll Q [] [] rho [] args (ls ++ a ∷ b ∷ []) all.count = subst (λ (n : ℕ). MeanAll Q [] [] rho [] (map (λ (i : ℕ). term.Free i) (numbers_from 0 n) ++ ta ∷ tb ∷ []) (ls ++ a ∷ b ∷ []) all.count) long all.mean in
+        let mean : MeanAll Q [] [] rho [] args (ls ++ a ∷ b ∷ []) all.count =
+        subst (λ (n : ℕ). MeanAll Q [] [] rho [] (map (λ (i : ℕ). term.Free i) (numbers_from 0 n) ++ ta ∷ tb ∷ [])
+        (ls ++ a ∷ b ∷ []) all.count) long all.mean in
         let stands : FunMeans [] [] s.function f = subst (λ (g : Fun). FunMeans [] [] g f) (sym subject.is_function) (means_itself Q [] [] subject.function) in
         let no_functions : FunsMean [] [] s.given [] = subst (λ (given : List Fun). FunsMean [] [] given []) (sym subject.is_given) tt in
         record {
           count = all.count + given.count;
-          means = of_layer_means Q [] [] rho (applied s ta tb) (Term-F.Call s.function s.given args) v (all.count + given.count) (term.outs-Call s.function s.given args) (call mean stands no_functions given.gives refl);
+          means =
+              of_layer_means Q [] [] rho (applied s ta tb) (Term-F.Call s.function s.given args) v (all.count + given.count)
+              (term.outs-Call s.function s.given args) (call mean stands no_functions given.gives refl);
         }
 
     -- sides of one value make a true equation

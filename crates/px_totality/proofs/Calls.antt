@@ -1,5 +1,5 @@
 -- What calls give, and what functions that are passed stand for, under what is known of definitions.
-use Rattle.std.proofs.Common.{◌≡◌, ℕ, zero, suc, ◌==◌, List, [], ◌∷◌, map, length, Option, Some, None, slice_get, Bool, true, false, refl, sym, ap, ◌∙◌, subst}
+use Rattle.std.proofs.Common.{◌≡◌, ℕ, ◌==◌, List, [], ◌∷◌, map, length, Some, slice_get, Bool, true, refl, sym, ap, ◌∙◌, subst}
 use Rattle.std.proofs.Common.{subst₂, eq-eqb}
 use Rattle.std.specs.Prelude.{if◌then◌else◌}
 use Rattle.std.specs.List.{All}
@@ -8,8 +8,7 @@ use Rattle.px_terms.specs.declared.types.Ty.{Ty}
 use Rattle.px_terms.specs.declared.types.Ty.TheVariants as type
 use Rattle.px_terms.specs.declared.types.FnType.{FnType}
 use Rattle.px_terms.specs.declared.types.Fun.{Fun}
-use Rattle.px_terms.specs.Head.{Head}
-use Rattle.px_terms.specs.Head.TheVariants.{Def, Wle, Weq, FnVar}
+use Rattle.px_terms.specs.Head.TheVariants.{Def, Wle, Weq}
 use Rattle.px_terms.specs.declared.term.Value.{Value}
 use Rattle.px_terms.specs.declared.program.Def as definition
 use Rattle.px_terms.specs.declared.program.Program.{Program}
@@ -17,7 +16,7 @@ use Rattle.px_terms.specs.declared.sequent.Context.{Context}
 use Rattle.px_terms.specs.Types.{ty_instance, tys_instance, fn_type_instance}
 use Rattle.px_terms.specs.TreeEquations.{ty_instance-Word, ty_instance-Con}
 use Rattle.px_terms.specs.Programs.{bool_type}
-use Rattle.px_terms.specs.Values.{IsIn, AreIn}
+use Rattle.px_terms.specs.Values.{AreIn}
 use Rattle.px_terms.specs.Meaning.{FunMeans, FunsMean}
 use Rattle.px_terms.specs.Typing.{Place, AreTypes, IsFunction, MayCall, MayPass, IsArgument, AreArguments}
 use Rattle.px_terms.specs.Typing as typing
@@ -25,7 +24,6 @@ use Rattle.px_terms.specs.TypedPrograms.{IsTyped, HasSignature, IsWrittenFnType}
 use Rattle.px_terms.specs.Descent.{Standing, self_call}
 use Rattle.px_totality.proofs.Instances.{written_types, instances_are_types, instances_twice, instance_twice}
 use Rattle.px_totality.proofs.Sizes.{AllStand}
-use Rattle.px_totality.proofs.TypesOfTerms.{all_at}
 use Rattle.px_totality.proofs.Total.{GivesIn, IsTotal, AreTotal, TotalAt, total_at, none_given, two_words, at_most_gives, equal_gives}
 use Rattle.px_totality.proofs.Total as total
 
@@ -108,9 +106,9 @@ module _ (Q : Program) (typed : IsTyped Q) (place : Place) (context : Context) (
             IsTotal Q h (tys_instance (tys_instance ts types) F.params) (ty_instance (tys_instance ts types) F.result)
         one F h w is =
             let params : tys_instance ts (tys_instance types F.params) ≡ tys_instance (tys_instance ts types) F.params =
-                instances_twice Q ts types (own_types_over (written_types Q D.tparams F.params w.params)) in
+            instances_twice Q ts types (own_types_over (written_types Q D.tparams F.params w.params)) in
             let result : ty_instance ts (ty_instance types F.result) ≡ ty_instance (tys_instance ts types) F.result =
-                instance_twice Q ts types F.result (subst (λ (k : ℕ). typing.IsType Q k F.result) (sym many) w.result.is_type) in
+            instance_twice Q ts types F.result (subst (λ (k : ℕ). typing.IsType Q k F.result) (sym many) w.result.is_type) in
             subst (λ (params : List Ty). IsTotal Q h params (ty_instance (tys_instance ts types) F.result)) params
             (subst (λ (T : Ty). IsTotal Q h (tys_instance ts (tys_instance types F.params)) T) result is)
 
@@ -123,7 +121,7 @@ module _ (Q : Program) (typed : IsTyped Q) (place : Place) (context : Context) (
             let same : G ≡ fn_type_instance types F = cc in
             let rest : Gs ≡ map (fn_type_instance types) Fs = cc in
             total.function (one F h (All-head (IsWrittenFnType Q D.tparams) F Fs w)
-                (subst (λ (G : FnType). IsTotal Q h (tys_instance ts G.params) (ty_instance ts G.result)) same first))
+            (subst (λ (G : FnType). IsTotal Q h (tys_instance ts G.params) (ty_instance ts G.result)) same first))
             (go Fs Gs hs rest (All-tail (IsWrittenFnType Q D.tparams) F Fs w) others)
 
   -- a function without functions that may be passed stands for a total one
@@ -134,7 +132,7 @@ module _ (Q : Program) (typed : IsTyped Q) (place : Place) (context : Context) (
       let no_funs : D.funs ≡ [] = nothing_mapped (fn_type_instance types) D.funs (sym takes_is ∙ none) in
       let h : Fun = record { head = Def m; types = tys_instance ts types } in
       let own : IsTotal Q h (tys_instance (tys_instance ts types) D.params) (ty_instance (tys_instance ts types) D.result) =
-          calls.passed m D types found may many (grounded are) no_funs in
+      calls.passed m D types found may many (grounded are) no_funs in
       record {
         g = h;
         means = refl;
@@ -146,15 +144,19 @@ module _ (Q : Program) (typed : IsTyped Q) (place : Place) (context : Context) (
     g = record { head = Wle; types = [] };
     means = refl;
     is_total =
-        record { at = λ vs are. subst (GivesIn Q (record { head = Wle; types = [] }) [] vs) (sym (bool_is T is))
-        (at_most_gives Q typed [] [] vs (two_words Q _ vs are two_words_are)) };
+        record {
+          at = λ vs are. subst (GivesIn Q (record { head = Wle; types = [] }) [] vs) (sym (bool_is T is))
+              (at_most_gives Q typed [] [] vs (two_words Q _ vs are two_words_are));
+        };
   }
   argument_meant (typing.equal {T = T} is) none may = record {
     g = record { head = Weq; types = [] };
     means = refl;
     is_total =
-        record { at = λ vs are. subst (GivesIn Q (record { head = Weq; types = [] }) [] vs) (sym (bool_is T is))
-        (equal_gives Q typed [] [] vs (two_words Q _ vs are two_words_are)) };
+        record {
+          at = λ vs are. subst (GivesIn Q (record { head = Weq; types = [] }) [] vs) (sym (bool_is T is))
+              (equal_gives Q typed [] [] vs (two_words Q _ vs are two_words_are));
+        };
   }
   argument_meant (typing.of_variable {n = m} {params = params} {T = T} {F = F} found params_is result_is) none may =
       let there : TotalAt Q ts F gs m = total_at Q ts context.funs gs m F given found in
@@ -180,11 +182,11 @@ module _ (Q : Program) (typed : IsTyped Q) (place : Place) (context : Context) (
       let signature : HasSignature Q D = (typed.defs m D found).signature in
       let h : Fun = record { head = Def m; types = tys_instance ts types } in
       let totals_there : AreTotal Q (tys_instance ts types) D.funs hs =
-          functions_twice D signature types many D.funs hs signature.funs.types (subst (λ (takes : List FnType). AreTotal Q ts takes hs) takes_is totals) in
+      functions_twice D signature types many D.funs hs signature.funs.types (subst (λ (takes : List FnType). AreTotal Q ts takes hs) takes_is totals) in
       let vs_there : AreIn Q (tys_instance (tys_instance ts types) D.params) vs =
-          subst (λ (types : List Ty). AreIn Q types vs) (ap (tys_instance ts) params_is ∙ params_twice D signature types many) in_types in
+      subst (λ (types : List Ty). AreIn Q types vs) (ap (tys_instance ts) params_is ∙ params_twice D signature types many) in_types in
       let own : GivesIn Q h hs vs (ty_instance (tys_instance ts types) D.result) =
-          calls.called m D types hs args vs found may many (grounded are) totals_there stand (self_fits n m Fits args self) vs_there in
+      calls.called m D types hs args vs found may many (grounded are) totals_there stand (self_fits n m Fits args self) vs_there in
       record { g = h; means = refl; given = subst (GivesIn Q h hs vs) (sym (ap (ty_instance ts) result_is ∙ result_twice D signature types many)) own }
   call_gives (typing.at_most {T = T} is) may hs totals args vs stand self in_types = record {
     g = record { head = Wle; types = [] };
@@ -204,7 +206,7 @@ module _ (Q : Program) (typed : IsTyped Q) (place : Place) (context : Context) (
       let there : TotalAt Q ts F gs m = total_at Q ts context.funs gs m F given found in
       let none : hs ≡ [] = none_given Q ts [] hs totals refl in
       let own : GivesIn Q there.f [] vs (ty_instance ts F.result) =
-          there.total.at vs (subst (λ (types : List Ty). AreIn Q types vs) (ap (tys_instance ts) params_is) in_types) in
+      there.total.at vs (subst (λ (types : List Ty). AreIn Q types vs) (ap (tys_instance ts) params_is) in_types) in
       record {
         g = there.f;
         means = there.at;

@@ -1,6 +1,6 @@
 -- Functions without variables: their types stay as they are, they stand for themselves, and each is one subject.
-use Rattle.std.proofs.Common.{◌≡◌, ℕ, List, [], ◌∷◌, ◌++◌, map, length, Option, Some, slice_get, refl, sym, ap, ◌∙◌, subst, arith}
-use Rattle.px_terms.specs.declared.types.Ty.{Ty, out-Ty, roll-Ty}
+use Rattle.std.proofs.Common.{◌≡◌, ℕ, List, [], ◌∷◌, ◌++◌, Some, slice_get, refl, sym, ap, ◌∙◌, subst, arith}
+use Rattle.px_terms.specs.declared.types.Ty.{Ty, roll-Ty}
 use Rattle.px_terms.specs.declared.types.Ty.TheVariants as type
 use Rattle.px_terms.specs.declared.types.Ty.TheViews.{roll-out-Ty}
 use Rattle.px_terms.specs.declared.types.Ty.TheOpen.{Ty-F}
@@ -112,9 +112,11 @@ taken_by Q (typing.of_variable {F = F} found params_are result_is) = absurd (not
 
 one_taken : (Q : Program) (h : Head) (types a b : List Ty) (T U : Ty) → TakenBy Q h types a T → TakenBy Q h types b U → (a ≡ b) × (T ≡ U)
 one_taken Q (Def n) types a b T U x y =
-    let same : x.D ≡ y.D = one_item x.D y.D (sym x.found ∙ y.found) in
-    (x.params_are ∙ ap (λ (D : definition.Def). tys_instance types D.params) same ∙ sym y.params_are, x.result_is ∙ ap
-        (λ (D : definition.Def). ty_instance types D.result) same ∙ sym y.result_is)
+    let same : x.D ≡ y.D = one_item x.D y.D (sym x.found ∙ y.found) in (
+      x.params_are ∙ ap (λ (D : definition.Def). tys_instance types D.params) same ∙ sym y.params_are,
+      x.result_is ∙ ap
+          (λ (D : definition.Def). ty_instance types D.result) same ∙ sym y.result_is,
+    )
 one_taken Q Wle types a b T U x y = (x.0 ∙ sym y.0, x.1 ∙ sym y.1)
 one_taken Q Weq types a b T U x y = (x.0 ∙ sym y.0, x.1 ∙ sym y.1)
 one_taken Q (FnVar n) types a b T U x y = absurd x

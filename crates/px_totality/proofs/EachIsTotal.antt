@@ -1,30 +1,26 @@
 -- Each definition gives a value: by its number, and for one definition by the sizes of the values at the positions where it descends.
-use Rattle.std.proofs.Common.{◌≡◌, ◌⊎◌, inl, inr, ℕ, zero, suc, ◌+◌, ◌<◌, List, [], ◌∷◌, map, length, Option, Some, None, slice_get, refl, sym, ap, ◌∙◌, subst}
+use Rattle.std.proofs.Common.{◌≡◌, inl, inr, ℕ, zero, suc, ◌+◌, ◌<◌, List, [], ◌∷◌, length, Some, slice_get, refl, sym, ap, ◌∙◌, subst}
 use Rattle.std.proofs.Common.{subst₂, arith}
-use Rattle.std.specs.List.{All}
 use Rattle.std.specs.Option.{option_map}
 use Rattle.std.proofs.lemmas.List.{length-map}
 use Rattle.px_terms.specs.declared.types.Ty.{Ty}
-use Rattle.px_terms.specs.declared.types.Ty.TheVariants as type
 use Rattle.px_terms.specs.declared.types.FnType.{FnType}
 use Rattle.px_terms.specs.declared.types.Fun.{Fun}
 use Rattle.px_terms.specs.Head.TheVariants.{Def, Wle, Weq}
-use Rattle.px_terms.specs.declared.term.Term.{Term, out-Term}
+use Rattle.px_terms.specs.declared.term.Term.{out-Term}
 use Rattle.px_terms.specs.declared.term.Value.{Value}
 use Rattle.px_terms.specs.declared.program.Def as definition
 use Rattle.px_terms.specs.declared.program.Program.{Program}
-use Rattle.px_terms.specs.declared.sequent.Context.{Context}
 use Rattle.px_terms.specs.Types.{ty_instance, tys_instance, fn_type_instance}
-use Rattle.px_terms.specs.Programs.{bool_type, body_of}
 use Rattle.px_terms.specs.Values.{IsIn, AreIn}
 use Rattle.px_terms.specs.Values as values
-use Rattle.px_terms.specs.Meaning.{Means, Gives, defined}
+use Rattle.px_terms.specs.Meaning.{defined}
 use Rattle.px_terms.specs.Typing.{Place, in_body, IsType, AreTypes, IsFunction, MayCall, HasType, live}
 use Rattle.px_terms.specs.Typing as typing
 use Rattle.px_terms.specs.Clauses.{functions_alone}
 use Rattle.px_terms.specs.TypedPrograms.{IsTyped, IsTypedDef, IsWrittenFnType, own_context}
-use Rattle.px_terms.specs.Descent.{Standing, Descends, Falls, walk, AllDescend}
-use Rattle.px_terms.specs.Extending.{IsChecked, FitsType, FitTypes, FitValues}
+use Rattle.px_terms.specs.Descent.{Standing, Descends, Falls, AllDescend}
+use Rattle.px_terms.specs.Extending.{IsWellFounded, FitsType, FitTypes, FitValues}
 use Rattle.px_terms.specs.Extending as fitting
 use Rattle.px_totality.specs.Laws.{IsContext}
 use Rattle.px_totality.proofs.Instances.{nothing_is_some, one_item, written_types, type_at}
@@ -114,14 +110,14 @@ module _ (Q : Program) (typed : IsTyped Q) where
         go m E types hs args ws there (inr own) many ground totals stand self are =
             let fall : sizes_at ws descends.positions < sizes_at vs descends.positions = falls vs args ws stand descends.positions (self own.0) in
             self_gives bound gives m E (tys_instance us types) hs ws there own.0 (length-map types (ty_instance us) ∙ many) ground totals are
-                (omega (arith, fall, small))
+            (omega (arith, fall, small))
 
     gives_below : (bound : ℕ) → GivesBelow bound
     gives_below zero us long ground hs totals vs are small = let wrong : ⊥ = omega (arith, small) in absurd wrong
     gives_below (suc bound) us long ground hs totals vs are small =
         let value : Valued Q us hs vs [] (out-Term D.body) D.result _ =
-            term_valued Q typed (in_body n) (own_context D) (own_is_context n D def) us long ground hs totals vs (live_fit Q us D.params vs are) n
-            (Falls descends.positions) (body_calls bound (gives_below bound) us vs small) D.body D.result def.body descends.falls in
+        term_valued Q typed (in_body n) (own_context D) (own_is_context n D def) us long ground hs totals vs (live_fit Q us D.params vs are) n
+        (Falls descends.positions) (body_calls bound (gives_below bound) us vs small) D.body D.result def.body descends.falls in
         record {
           value = value.v;
           count = value.count + 1;
@@ -135,7 +131,7 @@ module _ (Q : Program) (typed : IsTyped Q) where
   numbered_gives all (suc bound) n below = record {
     at = λ D found us long ground hs totals vs are.
         gives_below n (λ m before. numbered_gives all bound m (omega (arith, before, below))) D found (all.each n D found)
-            (suc (sizes_at vs (all.each n D found).positions)) us long ground hs totals vs are (omega arith);
+        (suc (sizes_at vs (all.each n D found).positions)) us long ground hs totals vs are (omega arith);
   }
 
   pub each_gives : AllDescend Q → (n : ℕ) → DefinitionGives Q n
@@ -147,7 +143,7 @@ module _ (Q : Program) (typed : IsTyped Q) where
   function_is_total all (typing.of_definition {n = n} {types = types} {D = D} found many are takes_is params_is result_is) none =
       let f : Fun = record { head = Def n; types = types } in
       subst₂ (IsTotal Q f) (sym params_is) (sym result_is)
-          (passed_total n D types (each_gives all n) found many are (nothing_mapped (fn_type_instance types) D.funs (sym takes_is ∙ none)))
+      (passed_total n D types (each_gives all n) found many are (nothing_mapped (fn_type_instance types) D.funs (sym takes_is ∙ none)))
   function_is_total all (typing.at_most is) none = record {
     at = λ vs are. subst (GivesIn Q (record { head = Wle; types = [] }) [] vs) (sym is) (at_most_gives Q typed [] [] vs (two_words Q _ vs are refl));
   }

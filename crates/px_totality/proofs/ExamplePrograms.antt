@@ -1,33 +1,32 @@
 -- The small programs are typed, and their definitions descend.
-use Rattle.std.proofs.Common.{◌≡◌, ℕ, zero, suc, ◌+◌, ◌<◌, List, [], ◌∷◌, ◌++◌, map, length, Option, Some, None, slice_get, true≢false, refl, sym, ap, ◌∙◌}
+use Rattle.std.proofs.Common.{◌≡◌, ℕ, zero, suc, ◌<◌, List, [], ◌∷◌, ◌++◌, length, Some, slice_get, true≢false, refl, sym, ap, ◌∙◌}
 use Rattle.std.proofs.Common.{subst, arith}
 use Rattle.std.specs.List.{All}
 use Rattle.std.proofs.lemmas.List.Elements.{All-nil, All-cons}
-use Rattle.px_terms.specs.Head.TheVariants.{Def, FnVar}
+use Rattle.px_terms.specs.Head.TheVariants.{FnVar}
 use Rattle.px_terms.specs.Prop.{Prop}
 use Rattle.px_terms.specs.Prop.TheVariants.{Comm, Assoc, Idem, Sel, Refl, Irrefl, Sym, Antisym, Asym, Trans, Conn}
 use Rattle.px_terms.specs.PropSets.{HasProp, set_of}
-use Rattle.px_terms.specs.declared.types.Ty.{Ty, out-Ty}
+use Rattle.px_terms.specs.declared.types.Ty.{Ty}
 use Rattle.px_terms.specs.declared.types.Ty.TheOpen.{Ty-F}
 use Rattle.px_terms.specs.declared.types.Ty.TheVariants as type
 use Rattle.px_terms.specs.declared.types.FnType.{FnType}
-use Rattle.px_terms.specs.declared.term.Term.{Term, out-Term}
+use Rattle.px_terms.specs.declared.term.Term.{Term}
 use Rattle.px_terms.specs.declared.term.Term.TheOpen.{Term-F}
 use Rattle.px_terms.specs.declared.term.Term.TheVariants as term
 use Rattle.px_terms.specs.declared.program.ConDef.{ConDef}
 use Rattle.px_terms.specs.declared.program.DataDef.{DataDef}
 use Rattle.px_terms.specs.declared.program.Def as definition
 use Rattle.px_terms.specs.declared.program.Program.{Program}
-use Rattle.px_terms.specs.declared.sequent.Context.{Context}
 use Rattle.px_terms.specs.TreeEquations.{ty_size-Con, ty_depth-Con}
 use Rattle.px_terms.specs.Programs.{bool_type, bool_data, false_term}
 use Rattle.px_terms.specs.Typing.{Place, in_body, IsTypeLayer, IsType, IsSmallMet, IsMet, HasTypeLayer, HasType, HaveTypes, AreTypes}
 use Rattle.px_terms.specs.Typing as typing
-use Rattle.px_terms.specs.TypedPrograms.{IsWritten, AreWritten, IsWrittenFnType, AreWrittenFnTypes, Fits, IsTypedCon, IsTypedData, HasSignature, IsTypedDef}
-use Rattle.px_terms.specs.TypedPrograms.{IsTypedReplica, IsTyped, own_context}
-use Rattle.px_terms.specs.Descent.{Standing, walk, Descends, Falls, self_calls, AllDescend}
-use Rattle.px_terms.specs.Extending.{IsChecked, IsExtension}
-use Rattle.px_totality.specs.Examples.{first_function, two_truths, same_body, same_function, never_function, program_of, same_program, longer_program}
+use Rattle.px_terms.specs.TypedPrograms.{IsWritten, AreWritten, IsWrittenFnType, Fits, IsTypedCon, IsTypedData, HasSignature, IsTypedDef}
+use Rattle.px_terms.specs.TypedPrograms.{IsTypedReplica, own_context}
+use Rattle.px_terms.specs.Descent.{Standing, walk, Descends, Falls}
+use Rattle.px_terms.specs.Extending.{IsWellFounded, IsExtension}
+use Rattle.px_totality.specs.Examples.{first_function, two_truths, same_body, same_function, never_function, same_program, longer_program}
 use Rattle.px_totality.specs.Examples.{empty_type, empty_data, empty_program}
 use Rattle.px_totality.proofs.Instances.{nothing_is_some, one_item}
 use Rattle.px_totality.proofs.Valued.{seen_of, seen_is}
@@ -81,7 +80,7 @@ no_calls P n i bound = ap (λ seen. (seen bound).calls) (seen_is P n (term.Free 
 same_calls : (P : Program) (n : ℕ) (bound : List Standing) → (walk P n same_body bound).calls ≡ []
 same_calls P n bound =
     ap (λ seen. (seen bound).calls) (seen_is P n same_body)
-        ∙ ap (λ (y : Term-F Term). (seen_of P n y bound).calls) (term.outs-Call first_function [] (term.Free 0 ∷ term.Free 0 ∷ []))
+    ∙ ap (λ (y : Term-F Term). (seen_of P n y bound).calls) (term.outs-Call first_function [] (term.Free 0 ∷ term.Free 0 ∷ []))
     ∙ ap (λ (calls : List (List Standing)). calls ++ (calls ++ [])) (no_calls P n 0 bound)
 
 never_calls : (P : Program) (n : ℕ) (bound : List Standing) → (walk P n false_term bound).calls ≡ []
@@ -97,8 +96,8 @@ without_calls P n D none = record {
 }
 
 -- so are that of `same` and `never`
-pub longer_checked : IsChecked longer_program
-longer_checked = record {
+pub longer_founded : IsWellFounded longer_program
+longer_founded = record {
   typed = record {
     bool = refl;
     datatypes = All-cons (IsTypedData longer_program) bool_data [] (bool_typed longer_program) (All-nil (IsTypedData longer_program));
@@ -145,9 +144,9 @@ longer_checked = record {
     same_typed : HasType longer_program (in_body 0) (own_context (same_function [])) same_body bool_type
     same_typed =
         subst (λ (y : Term-F Term). HasTypeLayer longer_program (in_body 0) (own_context (same_function [])) [] y bool_type)
-            (sym (term.outs-Call first_function [] (term.Free 0 ∷ term.Free 0 ∷ [])))
+        (sym (term.outs-Call first_function [] (term.Free 0 ∷ term.Free 0 ∷ [])))
         (typing.call (typing.of_variable {F = two_truths []} refl refl refl) tt (All-nil (IsMet (in_body 0))) (type_is_small 0) typing.none
-            (typing.more variable_typed (typing.more variable_typed typing.none)))
+        (typing.more variable_typed (typing.more variable_typed typing.none)))
 
     never_typed : HasType longer_program (in_body 1) (own_context never_function) false_term bool_type
     never_typed =
@@ -177,11 +176,11 @@ longer_extends = record {
   lemmas = record { more = []; is = refl };
   declared = record { more = []; is = refl };
   replicas = record { more = []; is = refl };
-  checked = longer_checked;
+  founded = longer_founded;
 }
 
-pub empty_checked : IsChecked empty_program
-empty_checked = record {
+pub empty_founded : IsWellFounded empty_program
+empty_founded = record {
   typed = record {
     bool = refl;
     datatypes =
@@ -211,5 +210,5 @@ empty_extends = record {
   lemmas = record { more = []; is = refl };
   declared = record { more = []; is = refl };
   replicas = record { more = []; is = refl };
-  checked = empty_checked;
+  founded = empty_founded;
 }

@@ -1,9 +1,8 @@
 -- What holds of the small programs, and what fails.
-use Rattle.std.proofs.Common.{◌≡◌, ℕ, zero, suc, ◌+◌, List, [], ◌∷◌, ◌++◌, map, length, Bool, true, false, Option, Some, None, slice_get, refl, sym, ap, ◌∙◌}
-use Rattle.std.proofs.Common.{subst, arith}
+use Rattle.std.proofs.Common.{◌≡◌, ℕ, zero, suc, ◌+◌, List, [], ◌∷◌, ◌++◌, true, false, Some, slice_get, refl, sym, ap, ◌∙◌}
+use Rattle.std.proofs.Common.{subst}
 use Rattle.std.specs.Option.{option_map, option_and_then}
-use Rattle.std.proofs.lemmas.List.{nil_from_length}
-use Rattle.px_terms.specs.Head.TheVariants.{Def, FnVar}
+use Rattle.px_terms.specs.Head.TheVariants.{Def}
 use Rattle.px_terms.specs.Prop.{Prop}
 use Rattle.px_terms.specs.Prop.TheVariants.{Idem}
 use Rattle.px_terms.specs.declared.types.Ty.{Ty, out-Ty}
@@ -18,7 +17,6 @@ use Rattle.px_terms.specs.declared.term.Value.{Value, out-Value}
 use Rattle.px_terms.specs.declared.term.Value.TheOpen.{Value-F}
 use Rattle.px_terms.specs.declared.term.Value.TheVariants as value
 use Rattle.px_terms.specs.declared.clause.Equation.{Equation}
-use Rattle.px_terms.specs.declared.clause.Clause.{Clause}
 use Rattle.px_terms.specs.declared.program.ConDef.{ConDef}
 use Rattle.px_terms.specs.declared.program.DataDef.{DataDef}
 use Rattle.px_terms.specs.declared.program.Def as definition
@@ -41,8 +39,8 @@ use Rattle.px_totality.specs.ExampleLaws.{SameOfAnyFails, SameOfIdempotentHolds,
 use Rattle.px_totality.proofs.Instances.{nothing_is_some, one_item}
 use Rattle.px_totality.proofs.Total.{truth_is_in}
 use Rattle.px_totality.proofs.Calls.{nothing_mapped}
-use Rattle.px_totality.proofs.ExamplePrograms.{longer_extends, longer_checked, empty_checked, empty_extends, nothing_assumed}
-use Rattle.px_totality.proofs.Closed.{types_stay, means_itself, same_ends, one_type}
+use Rattle.px_totality.proofs.ExamplePrograms.{longer_extends, longer_founded, empty_founded, empty_extends, nothing_assumed}
+use Rattle.px_totality.proofs.Closed.{means_itself, same_ends, one_type}
 use Rattle.px_totality.proofs.Unique.{unique, unique_all, OfCall, rests_on}
 
 pub not_same : truth false ≡ truth true → ⊥
@@ -102,16 +100,16 @@ module _ (Q : Program) (types : List Ty) (f : Fun) (a : Value) where
       Means Q types (f ∷ []) (a ∷ []) (term.Call (record { head = Def 0; types = [] }) (first_function ∷ []) (term.Free 0 ∷ [])) v (0 + (0 + c + 1))
   same_gives v c props found gives =
       let inside : Means Q [] (f ∷ []) (a ∷ []) same_body v (0 + c) =
-          of_layer_means Q [] (f ∷ []) (a ∷ []) same_body (Term-F.Call first_function [] (term.Free 0 ∷ term.Free 0 ∷ [])) v (0 + c)
-              (term.outs-Call first_function [] (term.Free 0 ∷ term.Free 0 ∷ []))
-          (call {g = f} {gs = []}
-              (more (variable_means Q [] (f ∷ []) (a ∷ []) 0 a refl)
-              (more (variable_means Q [] (f ∷ []) (a ∷ []) 0 a refl) none refl) refl) refl tt gives refl) in
+      of_layer_means Q [] (f ∷ []) (a ∷ []) same_body (Term-F.Call first_function [] (term.Free 0 ∷ term.Free 0 ∷ [])) v (0 + c)
+      (term.outs-Call first_function [] (term.Free 0 ∷ term.Free 0 ∷ []))
+      (call {g = f} {gs = []}
+      (more (variable_means Q [] (f ∷ []) (a ∷ []) 0 a refl)
+      (more (variable_means Q [] (f ∷ []) (a ∷ []) 0 a refl) none refl) refl) refl tt gives refl) in
       of_layer_means Q types (f ∷ []) (a ∷ []) (term.Call (record { head = Def 0; types = [] }) (first_function ∷ []) (term.Free 0 ∷ []))
-          (Term-F.Call (record { head = Def 0; types = [] }) (first_function ∷ []) (term.Free 0 ∷ [])) v (0 + (0 + c + 1))
-          (term.outs-Call (record { head = Def 0; types = [] }) (first_function ∷ []) (term.Free 0 ∷ []))
+      (Term-F.Call (record { head = Def 0; types = [] }) (first_function ∷ []) (term.Free 0 ∷ [])) v (0 + (0 + c + 1))
+      (term.outs-Call (record { head = Def 0; types = [] }) (first_function ∷ []) (term.Free 0 ∷ []))
       (call {g = record { head = Def 0; types = [] }} {gs = f ∷ []} (more (variable_means Q types (f ∷ []) (a ∷ []) 0 a refl) none refl) refl (refl, tt)
-          (defined (ap (option_map (λ (d : definition.Def). d.body)) found) inside refl) refl)
+      (defined (ap (option_map (λ (d : definition.Def). d.body)) found) inside refl) refl)
 
 words_are_no_truths : (types : List Ty) → type.Word ∷ type.Word ∷ [] ≡ tys_instance types (bool_type ∷ bool_type ∷ []) → ⊥
 words_are_no_truths types e =
@@ -188,20 +186,20 @@ never_fits = record {
 true_is_in : AreIn longer_program (tys_instance [] (bool_type ∷ [])) (truth true ∷ [])
 true_is_in =
     values.more (subst (λ (T : Ty). IsIn longer_program T (truth true)) (sym (ty_instance-Con [] 0 []))
-    (truth_is_in longer_program longer_checked.typed true)) values.none
+    (truth_is_in longer_program longer_founded.typed true)) values.none
 
 fails_in_longer : HoldsInProgram longer_program (same_clause []) → ⊥
 fails_in_longer holds =
     let some : SomeIsTrueAt longer_program [] (never ∷ []) (truth true ∷ []) (same_clause []).alternatives =
-        (holds.at [] refl typing.none (never ∷ []) (extending.more never_fits extending.none)).at (truth true ∷ []) true_is_in tt in
+    (holds.at [] refl typing.none (never ∷ []) (extending.more never_fits extending.none)).at (truth true ∷ []) true_is_in tt in
     let says : Term = term.Call (record { head = Def 0; types = [] }) (first_function ∷ []) (term.Free 0 ∷ []) in
     let same : SameValue longer_program [] (never ∷ []) (truth true ∷ []) says (term.Free 0) =
-        only_one longer_program [] (never ∷ []) (truth true ∷ []) (record { left = says; right = term.Free 0 }) some in
+    only_one longer_program [] (never ∷ []) (truth true ∷ []) (record { left = says; right = term.Free 0 }) some in
     let gives : Gives longer_program never [] (truth true ∷ truth true ∷ []) (truth false) 1 =
-        defined refl (false_means longer_program [] [] (truth true ∷ truth true ∷ [])) refl in
+    defined refl (false_means longer_program [] [] (truth true ∷ truth true ∷ [])) refl in
     not_same (same_values longer_program [] (never ∷ []) (truth true ∷ []) says (term.Free 0) (truth false) (truth true) (0 + (0 + 1 + 1)) 0
-        (same_gives longer_program [] never (truth true) (truth false) 1 [] refl gives)
-        (variable_means longer_program [] (never ∷ []) (truth true ∷ []) 0 (truth true) refl) same)
+    (same_gives longer_program [] never (truth true) (truth false) 1 [] refl gives)
+    (variable_means longer_program [] (never ∷ []) (truth true ∷ []) 0 (truth true) refl) same)
 
 pub same_of_any_fails : SameOfAnyFails
 same_of_any_fails = record {
@@ -216,7 +214,7 @@ record Given (Q : Program) (h : Fun) (ws : List Value) (v : Value) : Type 0 wher
   count : ℕ
   gives : Gives Q h [] ws v count
 
-nothing_meant : (types : List Ty) (funs gs : List Fun) → FunsMean types funs [] gs → gs ≡ []
+pub nothing_meant : (types : List Ty) (funs gs : List Fun) → FunsMean types funs [] gs → gs ≡ []
 nothing_meant types funs [] mean = refl
 nothing_meant types funs (g ∷ gs) mean = absurd mean
 
@@ -224,8 +222,8 @@ call_given : (Q : Program) (types : List Ty) (funs : List Fun) (rho : List Value
     (c : ℕ) → FunMeans types funs f h → MeanAll Q types funs rho [] args ws e → Means Q types funs rho (term.Call f [] args) v c → Given Q h ws v
 call_given Q types funs rho f h args ws e v c stands all means =
     let parts : OfCall Q types funs rho [] f [] args v c =
-        rests_on Q types funs rho [] (Term-F.Call f [] args) v c
-        (subst (λ (y : Term-F Term). MeansOf Q types funs rho [] y v c) (term.outs-Call f [] args) means) in
+    rests_on Q types funs rho [] (Term-F.Call f [] args) v c
+    (subst (λ (y : Term-F Term). MeansOf Q types funs rho [] y v c) (term.outs-Call f [] args) means) in
     let one : parts.g ≡ h = one_item parts.g h (sym parts.fun_means ∙ stands) in
     let none_given : parts.gs ≡ [] = nothing_meant types funs parts.gs parts.funs_mean in
     let same = unique_all Q types funs rho [] args parts.vs ws parts.a e parts.all all in
@@ -246,7 +244,7 @@ module _ (Q : Program) (types : List Ty) (f : Fun) (fully : FitsFully Q types (t
       let subject : IsSubject Q (functions_alone 0 []) f [] s = has.is_subject in
       let B : Ty = ty_instance types bool_type in
       let one : (B ∷ B ∷ [] ≡ subject.params) × (B ≡ s.result) =
-          one_type Q f [] subject.takes (B ∷ B ∷ []) subject.params B s.result fully.fits.function subject.function in
+      one_type Q f [] subject.takes (B ∷ B ∷ []) subject.params B s.result fully.fits.function subject.function in
       let ends : ([] ≡ s.leading) × (B ≡ s.last) = same_ends [] s.leading B s.last (one.0 ∙ subject.shape) in
       let leading : s.leading ≡ [] = sym ends.0 in
       let last : s.last ≡ bool_type = sym ends.1 ∙ ty_instance-Con types 0 [] in
@@ -255,17 +253,17 @@ module _ (Q : Program) (types : List Ty) (f : Fun) (fully : FitsFully Q types (t
       let given : s.given ≡ [] = subject.is_given in
       let same_subject : s ≡ t = λ i. record { function = function i; given = given i; leading = leading i; last = last i; result = s.result } in
       let is_true : IsTrueOfAll Q [] [] (clause_for t Idem 0 []) =
-          subst (λ (t : Subject). IsTrueOfAll Q [] [] (clause_for t Idem 0 [])) same_subject has.is_true in
+      subst (λ (t : Subject). IsTrueOfAll Q [] [] (clause_for t Idem 0 [])) same_subject has.is_true in
       let are : AreIn Q (tys_instance [] (bool_type ∷ [])) (a ∷ []) =
-          values.more (subst (λ (T : Ty). IsIn Q T a) (sym (ty_instance-Con [] 0 [])) is_in) values.none in
+      values.more (subst (λ (T : Ty). IsIn Q T a) (sym (ty_instance-Con [] 0 [])) is_in) values.none in
       let says : Term = term.Call f [] (term.Free 0 ∷ term.Free 0 ∷ []) in
       let same : SameValue Q [] [] (a ∷ []) says (term.Free 0) =
-          only_one Q [] [] (a ∷ []) (record { left = says; right = term.Free 0 }) (is_true.at (a ∷ []) are tt) in
+      only_one Q [] [] (a ∷ []) (record { left = says; right = term.Free 0 }) (is_true.at (a ∷ []) are tt) in
       let a_means : Means Q [] [] (a ∷ []) (term.Free 0) a 0 = variable_means Q [] [] (a ∷ []) 0 a refl in
       let args : MeanAll Q [] [] (a ∷ []) [] (term.Free 0 ∷ term.Free 0 ∷ []) (a ∷ a ∷ []) (0 + (0 + 0)) = more a_means (more a_means none refl) refl in
       let it : Given Q f (a ∷ a ∷ []) same.0 =
-          call_given Q [] [] (a ∷ []) f f (term.Free 0 ∷ term.Free 0 ∷ []) (a ∷ a ∷ []) (0 + (0 + 0)) same.0 same.1
-          (means_itself Q [] [] fully.fits.function) args same.3 in
+      call_given Q [] [] (a ∷ []) f f (term.Free 0 ∷ term.Free 0 ∷ []) (a ∷ a ∷ []) (0 + (0 + 0)) same.0 same.1
+      (means_itself Q [] [] fully.fits.function) args same.3 in
       let value_is = unique Q [] [] (a ∷ []) [] (out-Term (term.Free 0)) same.0 a same.2 0 same.4 a_means in
       subst (Given Q f (a ∷ a ∷ [])) value_is.0 it
 
@@ -285,13 +283,13 @@ same_of_idempotent_holds = record {
     go Q extends types funs fit rho in_types =
         let one : OneFits Q types (two_truths (Idem ∷ [])) funs = one_fits Q types (two_truths (Idem ∷ [])) (two_truths (Idem ∷ []) ∷ []) funs fit refl in
         let value : OneValue Q (ty_instance types bool_type) rho =
-            one_value Q (ty_instance types bool_type) (tys_instance types (bool_type ∷ [])) rho in_types refl in
+        one_value Q (ty_instance types bool_type) (tys_instance types (bool_type ∷ [])) rho in_types refl in
         let is_in : IsIn Q bool_type value.a = subst (λ (T : Ty). IsIn Q T value.a) (ty_instance-Con types 0 []) value.is_in in
         let found : slice_get Q.defs 0 ≡ Some (same_function (Idem ∷ [])) =
-            stands_still Q.defs (same_function (Idem ∷ []) ∷ []) 0 (same_function (Idem ∷ [])) extends.defs refl in
+        stands_still Q.defs (same_function (Idem ∷ []) ∷ []) 0 (same_function (Idem ∷ [])) extends.defs refl in
         subst (λ (funs : List Fun). SomeIsTrueAt Q types funs rho (same_clause (Idem ∷ [])).alternatives) (sym one.is)
         (subst (λ (rho : List Value). SomeIsTrueAt Q types (one.f ∷ []) rho (same_clause (Idem ∷ [])).alternatives) (sym value.is)
-            (same_is_true Q types one.f one.fully value.a is_in found))
+        (same_is_true Q types one.f one.fully value.a is_in found))
 
 module _ (Q : Program) (found : slice_get Q.datatypes 1 ≡ Some empty_data) where
   only_constructor : (k : ℕ) (c : ConDef) → slice_get empty_data.cons k ≡ Some c → c.fields ≡ empty_type ∷ []
@@ -304,7 +302,7 @@ module _ (Q : Program) (found : slice_get Q.datatypes 1 ≡ Some empty_data) whe
       let which : d ≡ 1 = cc in
       let none_given : args ≡ [] = cc in
       let here : slice_get empty_data.cons k ≡ Some c =
-          sym (ap (option_and_then (λ (D : DataDef). slice_get D.cons k)) (ap (slice_get Q.datatypes) which ∙ found)) ∙ at in
+      sym (ap (option_and_then (λ (D : DataDef). slice_get D.cons k)) (ap (slice_get Q.datatypes) which ∙ found)) ∙ at in
       ap (tys_instance args) (only_constructor k c here) ∙ ap (λ (T : Ty). T ∷ []) (ty_instance-Con args 1 [])
 
   mutual
@@ -320,12 +318,12 @@ module _ (Q : Program) (found : slice_get Q.datatypes 1 ≡ Some empty_data) whe
 of_nothing : (Q : Program) → IsExtension Q empty_program → (types : List Ty) (rho : List Value) → AreIn Q (tys_instance types (empty_type ∷ [])) rho → ⊥
 of_nothing Q extends types rho in_types =
     let found : slice_get Q.datatypes 1 ≡ Some empty_data =
-        stands_still Q.datatypes (bool_data ∷ empty_data ∷ []) 1 empty_data extends.datatypes refl in
+    stands_still Q.datatypes (bool_data ∷ empty_data ∷ []) 1 empty_data extends.datatypes refl in
     no_list Q found in_types (ap (λ (T : Ty). T ∷ []) (ty_instance-Con types 1 []))
 
 pub empty_holds_of_nothing : EmptyHoldsOfNothing
 empty_holds_of_nothing = record {
-  checked = empty_checked;
+  founded = empty_founded;
   of_nothing = record {
     in_each = λ Q extends. record {
       at = λ types count are funs fit. record { at = λ rho in_types premises. absurd (of_nothing Q extends types rho in_types) };

@@ -1,5 +1,5 @@
 -- The sum of the sizes of the values at the positions where a definition descends falls at each self-call.
-use Rattle.std.proofs.Common.{◌≡◌, ◌⊎◌, inl, inr, ℕ, zero, suc, ◌+◌, ◌<◌, ◌≤◌, List, [], ◌∷◌, map, Option, Some, None, slice_get, unwrap_or, refl, sym, ap, ◌∙◌}
+use Rattle.std.proofs.Common.{◌≡◌, inl, inr, ℕ, zero, suc, ◌+◌, ◌<◌, ◌≤◌, List, [], ◌∷◌, map, Option, Some, slice_get, unwrap_or, sym, ap}
 use Rattle.std.proofs.Common.{subst, arith}
 use Rattle.std.specs.Prelude.{sum}
 use Rattle.std.specs.List.{All}
@@ -9,8 +9,7 @@ use Rattle.std.proofs.lemmas.List.Sums.{sum_by-cons}
 use Rattle.px_terms.specs.declared.term.Value.{Value}
 use Rattle.px_terms.specs.Descent.{Standing, itself, below, Lowers, Keeps, Falls}
 use Rattle.px_totality.proofs.Instances.{nothing_is_some, one_item}
-use Rattle.px_totality.proofs.Sizes.{value_size, IsBelow, StandsAt, AllStand, stands_as}
-use Rattle.px_totality.proofs.TypesOfTerms.{all_at}
+use Rattle.px_totality.proofs.Sizes.{value_size, IsBelow, AllStand, stands_as}
 
 -- the size of the value at a position
 abbrev pub size_at : List Value → ℕ → ℕ
@@ -71,4 +70,4 @@ module _ (rho : List Value) (args : List Standing) (vs : List Value) (stand : Al
   falls positions f =
       let lowered : (i p : ℕ) × (slice_get positions i ≡ Some p) × Lowers args p = f.lowered in
       less (size_at vs) (size_at rho) positions lowered.0 lowered.1 (λ i d within. kept_size _ (f.never_raised i d within)) lowered.2
-          (lowered_size lowered.1 lowered.3)
+      (lowered_size lowered.1 lowered.3)

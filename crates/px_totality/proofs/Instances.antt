@@ -1,15 +1,12 @@
 -- Types put in for type variables: an instance is a type, types put in twice are put in once, and own types put in are themselves.
-use Rattle.std.proofs.Common.{◌≡◌, ℕ, zero, suc, ◌+◌, ◌<◌, List, [], ◌∷◌, map, length, Option, Some, None, slice_get, unwrap_or, refl, sym, ap, ◌∙◌, subst}
+use Rattle.std.proofs.Common.{◌≡◌, ℕ, zero, suc, ◌+◌, ◌<◌, List, [], ◌∷◌, map, length, Some, None, slice_get, unwrap_or, refl, sym, ap, ◌∙◌, subst}
 use Rattle.std.proofs.Common.{arith}
-use Rattle.std.specs.List.{All}
 use Rattle.std.proofs.lemmas.List.{length-map}
 use Rattle.std.proofs.lemmas.List.Elements.{All-head, All-tail}
-use Rattle.px_terms.specs.declared.types.Ty.{Ty, out-Ty, roll-Ty}
+use Rattle.px_terms.specs.declared.types.Ty.{Ty, roll-Ty}
 use Rattle.px_terms.specs.declared.types.Ty.TheVariants as type
 use Rattle.px_terms.specs.declared.types.Ty.TheViews.{roll-out-Ty}
 use Rattle.px_terms.specs.declared.types.Ty.TheOpen.{Ty-F}
-use Rattle.px_terms.specs.declared.types.FnType.{FnType}
-use Rattle.px_terms.specs.declared.program.DataDef.{DataDef}
 use Rattle.px_terms.specs.declared.program.Program.{Program}
 use Rattle.px_terms.specs.Types.{numbers_from, ty_instance, tys_instance, own_types}
 use Rattle.px_terms.specs.TreeEquations.{ty_instance-Word, ty_instance-Var, ty_instance-Con}
@@ -58,14 +55,14 @@ module _ (Q : Program) (k : ℕ) (ts : List Ty) (are_types : AreTypes Q k ts) wh
         subst (IsType Q k) (sym e) (subst (IsTypeLayer Q k) (sym type.outs-Word) typing.word)
     layer_instance_is_type (typing.var {n = n} below) =
         let e : ty_instance ts (roll-Ty (Ty-F.Var n)) ≡ unwrap_or (slice_get ts n) (type.Var n) =
-            ap (ty_instance ts) (type.rolls-Var n) ∙ ty_instance-Var ts n in
+        ap (ty_instance ts) (type.rolls-Var n) ∙ ty_instance-Var ts n in
         subst (IsType Q k) (sym e) (put_in_is_type Q k ts n (type.Var n) are_types below)
     layer_instance_is_type (typing.con {d = d} {args = args} {D = D} found count are) =
         let e : ty_instance ts (roll-Ty (Ty-F.Con d args)) ≡ type.Con d (tys_instance ts args) =
-            ap (ty_instance ts) (type.rolls-Con d args) ∙ ty_instance-Con ts d args in
+        ap (ty_instance ts) (type.rolls-Con d args) ∙ ty_instance-Con ts d args in
         let long : length (tys_instance ts args) ≡ D.tparams = length-map args (ty_instance ts) ∙ count in
         subst (IsType Q k) (sym e)
-            (subst (IsTypeLayer Q k) (sym (type.outs-Con d (tys_instance ts args))) (typing.con {D = D} found long (instances_are_types are)))
+        (subst (IsTypeLayer Q k) (sym (type.outs-Con d (tys_instance ts args))) (typing.con {D = D} found long (instances_are_types are)))
 
     -- the instances are types
     pub instances_are_types : {types : List Ty} → AreTypes Q (length ts) types → AreTypes Q k (tys_instance ts types)
@@ -89,14 +86,14 @@ module _ (Q : Program) (us ts : List Ty) where
     layer_twice (typing.con {d = d} {args = args} found count are) =
         subst (λ (T : Ty). ty_instance us (ty_instance ts T) ≡ ty_instance (tys_instance us ts) T) (sym (type.rolls-Con d args))
         (ap (ty_instance us) (ty_instance-Con ts d args) ∙ ty_instance-Con us d (tys_instance ts args) ∙ ap (type.Con d) (instances_twice are) ∙ sym
-            (ty_instance-Con (tys_instance us ts) d args))
+        (ty_instance-Con (tys_instance us ts) d args))
 
     -- types put in twice are put in once
     pub instances_twice : {types : List Ty} → AreTypes Q (length ts) types → tys_instance us (tys_instance ts types) ≡ tys_instance (tys_instance us ts) types
     instances_twice typing.none = refl
     instances_twice (typing.more {T = T} {types = types} is are) =
         let first : ty_instance us (ty_instance ts T) ≡ ty_instance (tys_instance us ts) T =
-            subst (λ (S : Ty). ty_instance us (ty_instance ts S) ≡ ty_instance (tys_instance us ts) S) (roll-out-Ty T) (layer_twice is) in
+        subst (λ (S : Ty). ty_instance us (ty_instance ts S) ≡ ty_instance (tys_instance us ts) S) (roll-out-Ty T) (layer_twice is) in
         let others : tys_instance us (tys_instance ts types) ≡ tys_instance (tys_instance us ts) types = instances_twice are in
         λ i. first i ∷ others i
 

@@ -1,13 +1,16 @@
 pub mod Applied
 pub mod Calls
 pub mod Closed
+pub mod Declared
 pub mod EachHasValue
 pub mod EachIsTotal
 pub mod ExamplePrograms
 pub mod Examples
+pub mod Extensions
 pub mod Falling
 pub mod Instances
 pub mod Properties
+pub mod PropertiesHold
 pub mod Sizes
 pub mod Total
 pub mod TypesOfTerms

@@ -1,9 +1,9 @@
 -- Sizes of values: a constructor's fields are smaller than it. What values are to the values of the parameters.
-use Rattle.std.proofs.Common.{◌≡◌, ℕ, zero, suc, ◌+◌, ◌<◌, ◌≤◌, List, [], ◌∷◌, ◌++◌, map, reverse, replicate, length, Option, Some, None, slice_get, get_or}
+use Rattle.std.proofs.Common.{◌≡◌, ℕ, zero, suc, ◌+◌, ◌<◌, List, [], ◌∷◌, ◌++◌, map, reverse, replicate, length, Some, slice_get, get_or}
 use Rattle.std.proofs.Common.{refl, sym, ap, ◌∙◌, subst, arith}
 use Rattle.std.specs.Prelude.{sum}
 use Rattle.std.specs.List.{All}
-use Rattle.std.proofs.lemmas.List.{length-map, length-append, length-reverse, length-replicate, reverse-append}
+use Rattle.std.proofs.lemmas.List.{length-reverse, reverse-append}
 use Rattle.std.proofs.lemmas.List.Sums.{sum_by-cons}
 use Rattle.std.proofs.lemmas.List.Elements.{All-head, All-tail, All-nil, All-cons, All-append}
 use Rattle.px_terms.specs.declared.term.Value.{Value, out-Value}
@@ -32,14 +32,14 @@ in_sum (w ∷ vs) =
     let size : sum (map value_size (w ∷ vs)) ≡ value_size w + sum (map value_size vs) = sum_by-cons (λ (n : ℕ). n) (value_size w) (map value_size vs) in
     let first : value_size w < total = omega (arith, size) in
     let rest : All (λ (v : Value). value_size v < total) vs =
-        λ i d within. let h : value_size (get_or vs i d) < 1 + sum (map value_size vs) = in_sum vs i d within in omega (arith, h, size) in
+    λ i d within. let h : value_size (get_or vs i d) < 1 + sum (map value_size vs) = in_sum vs i d within in omega (arith, h, size) in
     All-cons (λ (v : Value). value_size v < total) w vs first rest
 
 -- a constructor's fields are smaller
 pub fields_are_smaller : (u : Value) (d k : ℕ) (fields : List Value) → out-Value u ≡ Value-F.Con d k fields → AreSmaller u fields
 fields_are_smaller u d k fields e =
     let size : value_size u ≡ 1 + sum (map value_size fields) =
-        fold_out-Value ℕ value_size_step u ∙ ap (λ (y : Value-F Value). value_size_step (map-Value Value ℕ value_size y)) e in
+    fold_out-Value ℕ value_size_step u ∙ ap (λ (y : Value-F Value). value_size_step (map-Value Value ℕ value_size y)) e in
     subst (λ (n : ℕ). All (λ (v : Value). value_size v < n) fields) (sym size) (in_sum fields)
 
 -- The value is smaller than that of the parameter at the position.
@@ -95,7 +95,7 @@ pub fields_stand : (rho : List Value) (s : Standing) (u : Value) (count : ℕ) (
 fields_stand rho s u count vs ss inner stands smaller many others =
     let long : length (reverse vs) ≡ count = length-reverse vs ∙ sym many in
     all_stand_append rho (subst (λ (n : ℕ). AllStand rho (replicate n (under s)) (reverse vs)) long
-        (all_under rho s u (reverse vs) stands (smaller_reversed u vs smaller))) others
+    (all_under rho s u (reverse vs) stands (smaller_reversed u vs smaller))) others
 
 -- what stands for a pattern variable is to the parameters what is said of it
 pub stands_of : (rho : List Value) {ss : List Standing} {vs : List Value} (i : ℕ) (v : Value) → AllStand rho ss vs → slice_get vs i ≡ Some v →

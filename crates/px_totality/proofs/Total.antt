@@ -1,13 +1,12 @@
 -- Total functions: those that give a value on all values of their types.
-use Rattle.std.proofs.Common.{◌≡◌, ℕ, zero, suc, ◌<◌, List, [], ◌∷◌, map, length, Some, slice_get, nat_le, ◌==◌, Bool, true, false, refl, sym, ap, ◌∙◌, subst}
-use Rattle.std.proofs.Common.{arith}
+use Rattle.std.proofs.Common.{◌≡◌, ℕ, zero, suc, List, [], ◌∷◌, Some, slice_get, nat_le, ◌==◌, Bool, true, false, refl, sym, ap, ◌∙◌, subst}
 use Rattle.std.specs.Prelude.{if◌then◌else◌}
 use Rattle.px_terms.specs.declared.types.Ty.{Ty, out-Ty}
 use Rattle.px_terms.specs.declared.types.Ty.TheVariants as type
 use Rattle.px_terms.specs.declared.types.Ty.TheOpen.{Ty-F}
 use Rattle.px_terms.specs.declared.types.FnType.{FnType}
 use Rattle.px_terms.specs.declared.types.Fun.{Fun}
-use Rattle.px_terms.specs.Head.TheVariants.{Def, Wle, Weq}
+use Rattle.px_terms.specs.Head.TheVariants.{Wle, Weq}
 use Rattle.px_terms.specs.declared.term.Value.{Value, out-Value}
 use Rattle.px_terms.specs.declared.term.Value.TheVariants as value
 use Rattle.px_terms.specs.declared.term.Value.TheOpen.{Value-F}
@@ -98,7 +97,7 @@ module _ (Q : Program) (typed : IsTyped Q) where
       IsIn Q bool_type (truth b)
   truth_layer b k c is stands are =
       let there : constructor_at Q 0 (if b then 1 else 0) ≡ Some c =
-          constructor_of Q 0 (if b then 1 else 0) bool_data typed.bool ∙ ap (slice_get bool_data.cons) is ∙ stands in
+      constructor_of Q 0 (if b then 1 else 0) bool_data typed.bool ∙ ap (slice_get bool_data.cons) is ∙ stands in
       subst (λ (y : Ty-F Ty). IsInLayer Q y (out-Value (truth b))) (sym (type.outs-Con 0 []))
       (subst (IsInLayer Q (Ty-F.Con 0 [])) (sym (value.outs-Con 0 (if b then 1 else 0) [])) (values.con {c = c} there are))
 

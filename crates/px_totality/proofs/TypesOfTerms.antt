@@ -1,11 +1,11 @@
 -- The type of a typed term is a type.
-use Rattle.std.proofs.Common.{◌≡◌, ℕ, zero, suc, ◌+◌, ◌<◌, List, [], ◌∷◌, ◌++◌, map, reverse, length, Option, Some, None, slice_get, refl, sym, ap, ◌∙◌, subst}
+use Rattle.std.proofs.Common.{◌≡◌, ℕ, ◌<◌, List, [], ◌∷◌, ◌++◌, reverse, length, Option, Some, None, slice_get, refl, sym, ap, ◌∙◌, subst}
 use Rattle.std.proofs.Common.{arith}
 use Rattle.std.specs.List.{All}
 use Rattle.std.specs.Option.{option_and_then}
 use Rattle.std.proofs.lemmas.Option.{get_or_from_slice_get, slice_get_within}
 use Rattle.std.proofs.lemmas.List.{reverse-append}
-use Rattle.std.proofs.lemmas.List.Elements.{All-head, All-tail}
+use Rattle.std.proofs.lemmas.List.Elements.{All-head}
 use Rattle.px_terms.specs.declared.types.Ty.{Ty, out-Ty}
 use Rattle.px_terms.specs.declared.types.Ty.TheVariants as type
 use Rattle.px_terms.specs.declared.types.Ty.TheOpen.{Ty-F}
@@ -15,10 +15,8 @@ use Rattle.px_terms.specs.declared.term.Term.{Term}
 use Rattle.px_terms.specs.declared.term.Term.TheOpen.{Term-F}
 use Rattle.px_terms.specs.declared.program.ConDef.{ConDef}
 use Rattle.px_terms.specs.declared.program.DataDef.{DataDef}
-use Rattle.px_terms.specs.declared.program.Def as definition
 use Rattle.px_terms.specs.declared.program.Program.{Program}
 use Rattle.px_terms.specs.declared.sequent.Context.{Context}
-use Rattle.px_terms.specs.Types.{ty_instance, tys_instance}
 use Rattle.px_terms.specs.Programs.{bool_type, bool_data, constructor_at}
 use Rattle.px_terms.specs.Typing.{Place, IsTypeLayer, IsType, AreTypes, IsFunction, HasTypeLayer, HaveTypesInArms}
 use Rattle.px_terms.specs.Typing as typing
@@ -111,12 +109,12 @@ module _ (Q : Program) (typed : IsTyped Q) where
       type_of (typing.choose {d = d} {types = types} {U = U} {D = D} on U_is found arms) around =
           let of_data : IsTypedData Q D = data_is_typed d D found in
           type_of_arms arms D.tparams of_data.some of_data.cons (data_type Q k d D types U (type_of on around) U_is found).long
-              (data_type Q k d D types U (type_of on around) U_is found).are around
+          (data_type Q k d D types U (type_of on around) U_is found).are around
 
       type_of_arms : {bound types : List Ty} {cs : List ConDef} {arms : List Term} {T : Ty} → HaveTypesInArms Q place context bound types cs arms T → (m : ℕ) →
           0 < length cs → All (IsTypedCon Q m) cs → length types ≡ m → AreTypes Q k types → AreTypes Q k bound → IsType Q k T
       type_of_arms typing.no_arm m some cons long are around = let wrong : ⊥ = omega (arith, some) in absurd wrong
       type_of_arms (typing.arm {types = types} {c = c} {cs = cs} met body arms) m some cons long are around =
           let fields : AreTypes Q (length types) c.fields =
-              subst (λ (n : ℕ). AreTypes Q n c.fields) (sym long) (written_types Q m c.fields (All-head (IsTypedCon Q m) c cs cons)) in
+          subst (λ (n : ℕ). AreTypes Q n c.fields) (sym long) (written_types Q m c.fields (All-head (IsTypedCon Q m) c cs cons)) in
           type_of body (are_types_append Q k (are_types_reversed Q k (instances_are_types Q k types are fields)) around)

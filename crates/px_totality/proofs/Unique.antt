@@ -20,7 +20,7 @@ some_is a b o p q = let h : Some a ≡ Some b = sym p ∙ q in cc
 pair_is : {A B : Type 0} (a c : A) (b d : B) (o : Option (A × B)) → o ≡ Some (a, b) → o ≡ Some (c, d) → (a ≡ c) × (b ≡ d)
 pair_is a c b d o p q = let h : (a, b) ≡ (c, d) = some_is (a, b) (c, d) o p q in (ap (λ x. x.0) h, ap (λ x. x.1) h)
 
-lit_is : (x y : ℕ) (l : Value-F Value) → l ≡ Value-F.Lit x → l ≡ Value-F.Lit y → x ≡ y
+pub lit_is : (x y : ℕ) (l : Value-F Value) → l ≡ Value-F.Lit x → l ≡ Value-F.Lit y → x ≡ y
 lit_is x y l p q = let h : Value-F.Lit x ≡ Value-F.Lit y = sym p ∙ q in cc
 
 sums : (a b c d e f : ℕ) → a ≡ d → b ≡ e → a + b ≡ c → d + e ≡ f → c ≡ f
@@ -210,7 +210,7 @@ same_arm P types funs rho inner on arms u arm vs w e chooses other same =
     let here : chosen arms (out-Value other.u) ≡ Some (arm, vs) = subst (λ z. chosen arms (out-Value z) ≡ Some (arm, vs)) same chooses in
     let pair = pair_is arm other.arm vs other.vs (chosen arms (out-Value other.u)) here other.chooses in
     let with_arm : MeansOf P types funs rho (bind other.vs inner) (out-Term arm) w other.b =
-        subst (λ z. MeansOf P types funs rho (bind other.vs inner) (out-Term z) w other.b) (sym pair.0) other.arm_means in
+    subst (λ z. MeansOf P types funs rho (bind other.vs inner) (out-Term z) w other.b) (sym pair.0) other.arm_means in
     subst (λ z. MeansOf P types funs rho (bind z inner) (out-Term arm) w other.b) (sym pair.1) with_arm
 
 -- the other call's function and arguments are these
@@ -253,8 +253,8 @@ mutual
       let other = rests_on P types funs rho inner (Term-F.Match on n ts arms) w e d in
       let first = unique P types funs rho inner (out-Term on) u other.u a other.a on_means other.on_means in
       let second =
-          unique P types funs rho (bind vs inner) (out-Term arm) v w b other.b arm_means
-          (same_arm P types funs rho inner on arms u arm vs w e chooses other first.0) in
+      unique P types funs rho (bind vs inner) (out-Term arm) v w b other.b arm_means
+      (same_arm P types funs rho inner on arms u arm vs w e chooses other first.0) in
       (second.0, sums a b c other.a other.b e first.1 second.1 total other.total)
   unique P types funs rho inner _ v w c e
       (call {f = f} {g = g} {fs = fs} {gs = gs} {args = args} {vs = vs} {a = a} {b = b} all fun_means funs_mean gives total) d =

@@ -1,5 +1,5 @@
 -- A typed term has a value of its type: one induction on typing, over whatever is looked for in self-calls and what is known of calls.
-use Rattle.std.proofs.Common.{◌≡◌, ℕ, zero, suc, ◌+◌, ◌<◌, ◌^◌, List, [], ◌∷◌, ◌++◌, map, reverse, replicate, length, get_or, Option, Some, None, slice_get}
+use Rattle.std.proofs.Common.{◌≡◌, ℕ, zero, suc, ◌+◌, ◌<◌, ◌^◌, List, [], ◌∷◌, ◌++◌, map, reverse, replicate, length, get_or, Option, Some, slice_get}
 use Rattle.std.proofs.Common.{unwrap_or, refl, sym, ap, ◌∙◌, subst, arith}
 use Rattle.std.specs.List.{All}
 use Rattle.std.specs.Option.{option_map}
@@ -29,7 +29,7 @@ use Rattle.px_terms.specs.Meaning.{chosen, bind, MeansOf, MeanAll, free, bound, 
 use Rattle.px_terms.specs.Typing.{Place, IsType, AreTypes, HasTypeLayer, HaveTypes, HaveTypesInArms}
 use Rattle.px_terms.specs.Typing as typing
 use Rattle.px_terms.specs.TypedPrograms.{IsTyped, IsTypedData, IsTypedCon}
-use Rattle.px_terms.specs.Descent.{Standing, itself, below, elsewhere, under, Seen, walk, walk_step, calls_in, calls_in_arms, field_count, self_call}
+use Rattle.px_terms.specs.Descent.{Standing, itself, elsewhere, under, Seen, walk, walk_step, calls_in, calls_in_arms, field_count, self_call}
 use Rattle.px_totality.specs.Laws.{IsContext}
 use Rattle.px_totality.proofs.Instances.{nothing_is_some, one_item, instances_are_types, instances_twice}
 use Rattle.px_totality.proofs.Sizes.{AreSmaller, StandsAt, AllStand, none_stands, more_stand, stands_of, fields_are_smaller, fields_stand}
@@ -86,16 +86,16 @@ map_reversed : {A B : Type 0} (f : A → B) (xs : List A) → map f (reverse xs)
 map_reversed f [] = refl
 map_reversed f (x ∷ xs) =
     ap (map f) (reverse-append (x ∷ []) xs) ∙ map-append f (reverse xs) (x ∷ []) ∙ ap (λ ys. ys ++ f x ∷ []) (map_reversed f xs)
-        ∙ sym (reverse-append (f x ∷ []) (map f xs))
+    ∙ sym (reverse-append (f x ∷ []) (map f xs))
 
 -- What a value of a datatype is.
-record IsBuilt (Q : Program) (u : Value) (d : ℕ) (types : List Ty) : Type 0 where
-  k : ℕ
-  fields : List Value
-  c : ConDef
-  is : out-Value u ≡ Value-F.Con d k fields
-  found : constructor_at Q d k ≡ Some c
-  are_in : AreIn Q (tys_instance types c.fields) fields
+pub record IsBuilt (Q : Program) (u : Value) (d : ℕ) (types : List Ty) : Type 0 where
+  pub k : ℕ
+  pub fields : List Value
+  pub c : ConDef
+  pub is : out-Value u ≡ Value-F.Con d k fields
+  pub found : constructor_at Q d k ≡ Some c
+  pub are_in : AreIn Q (tys_instance types c.fields) fields
 
 built_layer : (Q : Program) (u : Value) (d : ℕ) (types : List Ty) {y : Ty-F Ty} {z : Value-F Value} → IsInLayer Q y z → y ≡ Ty-F.Con d types →
     out-Value u ≡ z → IsBuilt Q u d types
@@ -112,7 +112,7 @@ built_layer Q u d types (values.con {d = f} {k = k} {args = args} {fields = fiel
       are_in = subst (λ (types : List Ty). AreIn Q (tys_instance types c.fields) fields) given are;
     }
 
-built : (Q : Program) (u : Value) (d : ℕ) (types : List Ty) (T : Ty) → T ≡ type.Con d types → IsIn Q T u → IsBuilt Q u d types
+pub built : (Q : Program) (u : Value) (d : ℕ) (types : List Ty) (T : Ty) → T ≡ type.Con d types → IsIn Q T u → IsBuilt Q u d types
 built Q u d types T e is = built_layer Q u d types is (ap out-Ty e ∙ type.outs-Con d types) refl
 
 -- The layer has a value of the type, which is this to the parameters.
@@ -169,15 +169,15 @@ module _ (Q : Program) (typed : IsTyped Q) (place : Place) (context : Context) (
       Valued Q ts gs rho inner (Term-F.Bound i) T (get_or ss i elsewhere)
   bound_valued i T types ss inner around at =
       let there : IsInAt Q (ty_instance ts T) inner i =
-          in_at Q i (ty_instance ts T) around.are_in (slice_get-map (ty_instance ts) types i ∙ ap (option_map (ty_instance ts)) at) in
+      in_at Q i (ty_instance ts T) around.are_in (slice_get-map (ty_instance ts) types i ∙ ap (option_map (ty_instance ts)) at) in
       record { v = there.v; count = 0; means = bound there.at; in_type = there.is_in; stands = stands_of rho i there.v around.stand there.at }
 
   lit_valued : (w : ℕ) (T : Ty) (inner : List Value) → w < 2 ^ 64 → T ≡ type.Word → Valued Q ts gs rho inner (Term-F.Lit w) T elsewhere
   lit_valued w T inner small e =
       let word : ty_instance ts T ≡ type.Word = ap (ty_instance ts) e ∙ ty_instance-Word ts in
       let in_word : IsIn Q type.Word (value.Lit w) =
-          subst (λ (y : Ty-F Ty). IsInLayer Q y (out-Value (value.Lit w))) (sym type.outs-Word)
-          (subst (IsInLayer Q Ty-F.Word) (sym (value.outs-Lit w)) (values.word small)) in
+      subst (λ (y : Ty-F Ty). IsInLayer Q y (out-Value (value.Lit w))) (sym type.outs-Word)
+      (subst (IsInLayer Q Ty-F.Word) (sym (value.outs-Lit w)) (values.word small)) in
       record { v = value.Lit w; count = 0; means = lit refl; in_type = subst (λ (T : Ty). IsIn Q T (value.Lit w)) (sym word) in_word; stands = tt }
 
   con_valued : (d k : ℕ) (types : List Ty) (fields : List Term) (T : Ty) (c : ConDef) (ss : List Standing) (inner : List Value) →
@@ -189,12 +189,12 @@ module _ (Q : Program) (typed : IsTyped Q) (place : Place) (context : Context) (
       let of_data : IsTypedData Q there.datatype = data_is_typed Q typed d there.datatype there.found in
       let is_con : IsTypedCon Q there.datatype.tparams c = all_at (IsTypedCon Q there.datatype.tparams) there.datatype.cons k c of_data.cons there.stands in
       let twice : tys_instance ts (tys_instance types c.fields) ≡ tys_instance (tys_instance ts types) c.fields =
-          instances_twice Q ts types (fields_are_types Q there.datatype types c of_type.long is_con) in
+      instances_twice Q ts types (fields_are_types Q there.datatype types c of_type.long is_con) in
       let in_fields : AreIn Q (tys_instance (tys_instance ts types) c.fields) all.vs = subst (λ (types : List Ty). AreIn Q types all.vs) twice all.in_types in
       let T_is : ty_instance ts T ≡ type.Con d (tys_instance ts types) = ap (ty_instance ts) e ∙ ty_instance-Con ts d types in
       let in_con : IsIn Q (type.Con d (tys_instance ts types)) (value.Con d k all.vs) =
-          subst (λ (y : Ty-F Ty). IsInLayer Q y (out-Value (value.Con d k all.vs))) (sym (type.outs-Con d (tys_instance ts types)))
-          (subst (IsInLayer Q (Ty-F.Con d (tys_instance ts types))) (sym (value.outs-Con d k all.vs)) (values.con found in_fields)) in
+      subst (λ (y : Ty-F Ty). IsInLayer Q y (out-Value (value.Con d k all.vs))) (sym (type.outs-Con d (tys_instance ts types)))
+      (subst (IsInLayer Q (Ty-F.Con d (tys_instance ts types))) (sym (value.outs-Con d k all.vs)) (values.con found in_fields)) in
       record {
         v = value.Con d k all.vs;
         count = all.count;
@@ -213,10 +213,10 @@ module _ (Q : Program) (typed : IsTyped Q) (place : Place) (context : Context) (
       let twice : tys_instance ts own ≡ tys_instance (tys_instance ts types) c.fields = instances_twice Q ts types field_types in
       let here : AreIn Q (tys_instance ts own) fields = subst (λ (types : List Ty). AreIn Q types fields) (sym twice) in_fields in
       let split : tys_instance ts (reverse own ++ outer) ≡ reverse (tys_instance ts own) ++ tys_instance ts outer =
-          map-append (ty_instance ts) (reverse own) outer ∙ ap (λ (types : List Ty). types ++ tys_instance ts outer) (map_reversed (ty_instance ts) own) in
+      map-append (ty_instance ts) (reverse own) outer ∙ ap (λ (types : List Ty). types ++ tys_instance ts outer) (map_reversed (ty_instance ts) own) in
       let many : field_count Q d k ≡ length fields =
-          ap (λ (o : Option ConDef). unwrap_or (option_map (λ (c : ConDef). length c.fields) o) 0) found
-          ∙ sym (length-map c.fields (ty_instance (tys_instance ts types))) ∙ as_many Q in_fields in
+      ap (λ (o : Option ConDef). unwrap_or (option_map (λ (c : ConDef). length c.fields) o) 0) found
+      ∙ sym (length-map c.fields (ty_instance (tys_instance ts types))) ∙ as_many Q in_fields in
       record {
         are_types =
             are_types_append Q context.tparams
@@ -358,19 +358,19 @@ module _ (Q : Program) (typed : IsTyped Q) (place : Place) (context : Context) (
         let values_of : AllValued Q ts gs rho inner args params stands = all_valued have ss inner around (back_all Fits self parts all) in
         call_valued f funs args takes params T stands inner meant values_of
         (call_gives Q typed place context ts long ground gs given rho n Fits calls function may meant.hs meant.are_total stands values_of.vs values_of.stand
-            (front_all Fits self parts all) values_of.in_types)
+        (front_all Fits self parts all) values_of.in_types)
     valued (typing.choose {on = on} {d = d} {types = types} {arms = arms} {T = T} {U = U} {D = D} on_typed U_is found arms_typed) ss inner around all =
         let on_calls : List (List Standing) = (walk Q n on ss).calls in
         let s : Standing = (walk Q n on ss).stands in
         let arm_calls : List (List Standing) = calls_in_arms Q d 0 (map (walk Q n) arms) s ss in
         let on_valued : Valued Q ts gs rho inner (out-Term on) U s =
-            of_layer on U ss inner (valued on_typed ss inner around (calls_of on ss (front_all Fits on_calls arm_calls all))) in
+        of_layer on U ss inner (valued on_typed ss inner around (calls_of on ss (front_all Fits on_calls arm_calls all))) in
         let b : IsBuilt Q on_valued.v d (tys_instance ts types) =
-            built Q on_valued.v d (tys_instance ts types) (ty_instance ts U) (ap (ty_instance ts) U_is ∙ ty_instance-Con ts d types) on_valued.in_type in
+        built Q on_valued.v d (tys_instance ts types) (ty_instance ts U) (ap (ty_instance ts) U_is ∙ ty_instance-Con ts d types) on_valued.in_type in
         let U_type : IsType Q context.tparams U = type_of Q typed place context is_context on_typed around.are_types in
         match_valued on d types arms U T s inner on_valued b
         (arms_valued arms_typed d 0 b.k s b.fields ss inner (chosen_of d types U D s on_valued.v b U_type U_is found on_valued.stands) around
-            (back_all Fits on_calls arm_calls all))
+        (back_all Fits on_calls arm_calls all))
 
     all_valued : {around_types : List Ty} {terms : List Term} {types : List Ty} → HaveTypes Q place context around_types terms types →
         (ss : List Standing) (inner : List Value) → Around around_types ss inner → All Fits (calls_in (map (walk Q n) terms) ss) →
@@ -394,15 +394,15 @@ module _ (Q : Program) (typed : IsTyped Q) (place : Place) (context : Context) (
         let first : List (List Standing) = (walk Q n body within).calls in
         let rest : List (List Standing) = calls_in_arms Q d (j + 1) (map (walk Q n) arms) s ss in
         arm_valued body arms T _ fields inner
-            (valued has within (bind fields inner) (around_first d j types outer c cs s fields ss inner it around)
-            (calls_of body within (front_all Fits first rest all)))
+        (valued has within (bind fields inner) (around_first d j types outer c cs s fields ss inner it around)
+        (calls_of body within (front_all Fits first rest all)))
     arms_valued (typing.arm {bound = around_types} {types = types} {c = c} {cs = cs} {body = body} {arms = arms} {T = T} met has have) d j
         (suc i) s fields ss inner it around all =
         let within : List Standing = replicate (field_count Q d j) (under s) ++ ss in
         let first : List (List Standing) = (walk Q n body within).calls in
         let rest : List (List Standing) = calls_in_arms Q d (j + 1) (map (walk Q n) arms) s ss in
         later_arm body arms i T fields inner
-            (arms_valued have d (j + 1) i s fields ss inner (later_chosen d j i types c cs s fields it) around (back_all Fits first rest all))
+        (arms_valued have d (j + 1) i s fields ss inner (later_chosen d j i types c cs s fields it) around (back_all Fits first rest all))
 
   -- a term has a value of its type
   pub term_valued : (t : Term) (T : Ty) → HasTypeLayer Q place context [] (out-Term t) T → All Fits (walk Q n t []).calls →

@@ -1,5 +1,5 @@
 -- What is said of every program that is typed and descends: each call, and each typed term, has exactly one value.
-use Rattle.std.specs.Prelude.{◌≡◌, ℕ, List, [], ◌∷◌, length, Option, Some, slice_get, All}
+use Rattle.std.specs.Prelude.{◌≡◌, ℕ, List, [], length, Some, slice_get}
 use Rattle.px_terms.specs.Head.TheVariants.{Def}
 use Rattle.px_terms.specs.declared.types.Ty.{Ty}
 use Rattle.px_terms.specs.declared.types.FnType.{FnType}
@@ -13,7 +13,7 @@ use Rattle.px_terms.specs.Types.{ty_instance, tys_instance}
 use Rattle.px_terms.specs.Values.{IsIn, AreIn}
 use Rattle.px_terms.specs.Meaning.{Gives, Means}
 use Rattle.px_terms.specs.Typing.{Place, IsType, AreTypes, HasType}
-use Rattle.px_terms.specs.Extending.{IsChecked, FitsType, FitTypes, FitValues}
+use Rattle.px_terms.specs.Extending.{IsWellFounded, IsExtension, FitsType, FitTypes, FitValues}
 
 -- Of what is said of values with their counts there is exactly one, and the value is in the type.
 pub record ExactlyOne (Q : Program) (T : Ty) (IsGiven : Value → ℕ → Type 0) : Type 0 where
@@ -26,7 +26,7 @@ pub record ExactlyOne (Q : Program) (T : Ty) (IsGiven : Value → ℕ → Type 0
 -- a definition on functions that fit and values of its parameters' types gives exactly one value with one count, at all ground types
 abbrev pub EachCallHasValue : Type 0
 EachCallHasValue =
-    (Q : Program) → IsChecked Q → (n : ℕ) (D : definition.Def) → slice_get Q.defs n ≡ Some D →
+    (Q : Program) → IsWellFounded Q → (n : ℕ) (D : definition.Def) → slice_get Q.defs n ≡ Some D →
     (types : List Ty) → length types ≡ D.tparams → AreTypes Q 0 types → (funs : List Fun) → FitTypes Q types D.funs funs →
     (vs : List Value) → AreIn Q (tys_instance types D.params) vs →
     ExactlyOne Q (ty_instance types D.result) (Gives Q (record { head = Def n; types = types }) funs vs)
@@ -34,7 +34,7 @@ EachCallHasValue =
 -- a function that fits a type, a built-in too, gives exactly one value with one count on values of its parameters' types
 abbrev pub EachFunctionHasValue : Type 0
 EachFunctionHasValue =
-    (Q : Program) → IsChecked Q → (types : List Ty) (F : FnType) (f : Fun) → FitsType Q types F f →
+    (Q : Program) → IsWellFounded Q → (types : List Ty) (F : FnType) (f : Fun) → FitsType Q types F f →
     (vs : List Value) → AreIn Q (tys_instance types F.params) vs → ExactlyOne Q (ty_instance types F.result) (Gives Q f [] vs)
 
 -- The types of a context's variables are types.
@@ -45,6 +45,11 @@ pub record IsContext (Q : Program) (context : Context) : Type 0 where
 -- a typed term has exactly one value with one count, at all ground types, functions that fit and values that fit its variables
 abbrev pub EachTermHasValue : Type 0
 EachTermHasValue =
-    (Q : Program) → IsChecked Q → (place : Place) (context : Context) → IsContext Q context → (t : Term) (T : Ty) → HasType Q place context t T →
+    (Q : Program) → IsWellFounded Q → (place : Place) (context : Context) → IsContext Q context → (t : Term) (T : Ty) → HasType Q place context t T →
     (types : List Ty) → length types ≡ context.tparams → AreTypes Q 0 types → (funs : List Fun) → FitTypes Q types context.funs funs →
     (rho : List Value) → FitValues Q types context.vars rho → ExactlyOne Q (ty_instance types T) (Means Q types funs rho t)
+
+-- A program that is typed and descends is an extension of itself, and an extension of an extension is one.
+pub record ExtensionsCompose : Type 0 where
+  pub itself : (P : Program) → IsWellFounded P → IsExtension P P
+  pub further : (P Q R : Program) → IsExtension R Q → IsExtension Q P → IsExtension R P
