@@ -30,7 +30,10 @@ begins_itself : {A : Type 0} (xs : List A) → BeginsWith xs xs
 begins_itself xs = record { more = []; is = sym (append-nil xs) }
 
 begins_further : {A : Type 0} (xs ys zs : List A) → BeginsWith zs ys → BeginsWith ys xs → BeginsWith zs xs
-begins_further {A} xs ys zs late early = record { more = early.more ++ late.more; is = late.is ∙ ap (λ (front : List A). front ++ late.more) early.is ∙ append_assoc xs early.more late.more }
+begins_further {A} xs ys zs late early = record {
+  more = early.more ++ late.more;
+  is = late.is ∙ ap (λ (front : List A). front ++ late.more) early.is ∙ append_assoc xs early.more late.more;
+}
 
 extends_itself : (P : Program) → IsWellFounded P → IsExtension P P
 extends_itself P founded = record {
@@ -58,9 +61,12 @@ extensions_compose = record { itself = extends_itself; further = extends_further
 pub first_is_not_commutative : FirstIsNotCommutative
 first_is_not_commutative P founded n D T found no_types no_funs params body v w in_v in_w differ clause says_it holds =
     let f : Fun = record { head = Def n; types = [] } in
-    let h : HasInProgram P f Comm = declared_is_had P founded n D found no_funs Comm clause says_it (holds.in_each P (extends_itself P founded)) [] (sym no_types) typing.none in
+    let h : HasInProgram P f Comm =
+        declared_is_had P founded n D found no_funs Comm clause says_it (holds.in_each P (extends_itself P founded)) [] (sym no_types) typing.none in
     let s : Subject = h.subject in
-    let one : (h.is_subject.params ≡ tys_instance [] D.params) × (s.result ≡ _) = one_type P f h.is_subject.takes _ h.is_subject.params (tys_instance [] D.params) s.result _ h.is_subject.function (typing.of_definition {D = D} found (sym no_types) typing.none refl refl refl) in
+    let one : (h.is_subject.params ≡ tys_instance [] D.params) × (s.result ≡ _) =
+        one_type P f h.is_subject.takes _ h.is_subject.params (tys_instance [] D.params) s.result _ h.is_subject.function
+        (typing.of_definition {D = D} found (sym no_types) typing.none refl refl refl) in
     let ends : (s.leading ≡ []) × (s.last ≡ T) = same_ends s.leading [] s.last T (sym h.is_subject.shape ∙ one.0 ∙ nothing_put_in D.params ∙ params) in
     let no_leading : AreIn P s.leading [] = subst (λ (types : List Ty). AreIn P types []) (sym ends.0) values.none in
     let last_v : IsIn P s.last v = subst (λ (T : Ty). IsIn P T v) (sym ends.1) in_v in
