@@ -1,9 +1,8 @@
 -- Functions that are typed as arguments stand for functions that fit, with the properties that are assumed, where each earlier obligation holds.
-use Rattle.std.proofs.Common.{◌≡◌, ℕ, zero, suc, List, [], ◌∷◌, map, length, Option, Some, None, slice_get, refl, sym, ap, ◌∙◌, subst, subst₂}
+use Rattle.std.proofs.Common.{◌≡◌, ℕ, zero, suc, List, [], ◌∷◌, map, length, Option, Some, slice_get, refl, sym, ap, ◌∙◌, subst, subst₂}
 use Rattle.std.specs.Option.{IsSomeAnd}
 use Rattle.std.proofs.lemmas.List.{length-map}
-use Rattle.px_terms.specs.Head.{Head}
-use Rattle.px_terms.specs.Head.TheVariants.{Def, Wle, Weq, FnVar}
+use Rattle.px_terms.specs.Head.TheVariants.{Def}
 use Rattle.px_terms.specs.Prop.{Prop}
 use Rattle.px_terms.specs.PropSet.{PropSet}
 use Rattle.px_terms.specs.PropSets.{HasProp}
@@ -21,7 +20,7 @@ use Rattle.px_terms.specs.Programs.{bool_type}
 use Rattle.px_terms.specs.Meaning.{FunMeans}
 use Rattle.px_terms.specs.Typing.{Place, IsType, AreTypes, IsFunction, IsDeclaredBefore, IsKnown, IsArgument, AreArguments}
 use Rattle.px_terms.specs.Typing as typing
-use Rattle.px_terms.specs.TypedPrograms.{IsTyped, Fits, HasSignature}
+use Rattle.px_terms.specs.TypedPrograms.{Fits, HasSignature}
 use Rattle.px_terms.specs.Clauses.{functions_alone}
 use Rattle.px_terms.specs.Obligations.{IsObligation, of_property}
 use Rattle.px_terms.specs.Implied.{Closure}
@@ -100,7 +99,7 @@ module _ (Q : Program) (founded : IsWellFounded Q) (place : Place) (context : Co
       let us_long : length us ≡ D.tparams = length-map types (ty_instance ts) ∙ many in
       let no_funs : D.funs ≡ [] = nothing_mapped (fn_type_instance types) D.funs (sym takes_is ∙ none) in
       let params_over : AreTypes Q (length types) D.params =
-          subst (λ (k : ℕ). AreTypes Q k D.params) (sym many) (written_types Q D.tparams D.params signature.params) in
+      subst (λ (k : ℕ). AreTypes Q k D.params) (sym many) (written_types Q D.tparams D.params signature.params) in
       let result_over : IsType Q (length types) D.result = subst (λ (k : ℕ). IsType Q k D.result) (sym many) signature.result.is_type in
       record {
         g = g;

@@ -1,6 +1,6 @@
 -- Where the clause of a property of a definition without function parameters holds, the definition has the property at all ground types.
-use Rattle.std.proofs.Common.{◌≡◌, ℕ, zero, suc, ◌+◌, List, [], ◌∷◌, ◌++◌, map, replicate, length, Option, Some, None, slice_get, refl, sym, ap, ◌∙◌, subst}
-use Rattle.std.proofs.Common.{subst₂, arith}
+use Rattle.std.proofs.Common.{◌≡◌, ℕ, zero, suc, ◌+◌, List, [], ◌∷◌, ◌++◌, map, replicate, length, Some, slice_get, refl, sym, ap, ◌∙◌, subst}
+use Rattle.std.proofs.Common.{subst₂}
 use Rattle.std.proofs.lemmas.List.{map-append, length-map}
 use Rattle.px_terms.specs.Head.{Head}
 use Rattle.px_terms.specs.Head.TheVariants.{Def, Wle, Weq, FnVar}
@@ -14,7 +14,6 @@ use Rattle.px_terms.specs.declared.term.Term.{Term, out-Term}
 use Rattle.px_terms.specs.declared.term.Term.TheOpen.{Term-F}
 use Rattle.px_terms.specs.declared.term.Term.TheVariants as term
 use Rattle.px_terms.specs.declared.term.Value.{Value}
-use Rattle.px_terms.specs.declared.term.Value.TheVariants as value
 use Rattle.px_terms.specs.declared.clause.Equation.{Equation}
 use Rattle.px_terms.specs.declared.clause.Clause.{Clause}
 use Rattle.px_terms.specs.declared.program.Def as definition
@@ -22,7 +21,7 @@ use Rattle.px_terms.specs.declared.program.Program.{Program}
 use Rattle.px_terms.specs.declared.sequent.Context.{Context}
 use Rattle.px_terms.specs.Types.{numbers_from, ty_instance, tys_instance, fn_type_instance, own_types, own_functions}
 use Rattle.px_terms.specs.TreeEquations.{ty_instance-Con}
-use Rattle.px_terms.specs.Programs.{bool_type, false_term, true_term}
+use Rattle.px_terms.specs.Programs.{bool_type}
 use Rattle.px_terms.specs.Values.{AreIn}
 use Rattle.px_terms.specs.Meaning.{FunMeans, FunsMean, MeansOf, MeanAll, Means, Gives, free, con, call, none, more}
 use Rattle.px_terms.specs.Typing.{IsType, AreTypes, IsFunction}
@@ -53,18 +52,22 @@ module _ (Q : Program) (ts us : List Ty) (rho : List Value) where
   layer_of types t y v c e means = subst (λ (y : Term-F Term). MeansOf Q types [] rho [] y v c) e means
 
   variable_moves : (i : ℕ) → Moves Q ts us rho (term.Free i) (term.Free i)
-  variable_moves i = record { to = λ v c means.
-      let is : (slice_get rho i ≡ Some v) × (c ≡ 0) =
-          rests_on Q ts [] rho [] (Term-F.Free i) v c (layer_of ts (term.Free i) (Term-F.Free i) v c (term.outs-Free i) means) in
-      subst (Means Q us [] rho (term.Free i) v) (sym is.1) (of_layer_means Q us [] rho (term.Free i) (Term-F.Free i) v 0 (term.outs-Free i) (free is.0)) }
+  variable_moves i = record {
+    to = λ v c means.
+        let is : (slice_get rho i ≡ Some v) × (c ≡ 0) =
+        rests_on Q ts [] rho [] (Term-F.Free i) v c (layer_of ts (term.Free i) (Term-F.Free i) v c (term.outs-Free i) means) in
+        subst (Means Q us [] rho (term.Free i) v) (sym is.1) (of_layer_means Q us [] rho (term.Free i) (Term-F.Free i) v 0 (term.outs-Free i) (free is.0));
+  }
 
   truth_moves : (k : ℕ) → Moves Q ts us rho (term.Con 0 k [] []) (term.Con 0 k [] [])
-  truth_moves k = record { to = λ v c means.
-      let is : OfCon Q ts [] rho [] 0 k [] v c =
-          rests_on Q ts [] rho [] (Term-F.Con 0 k [] []) v c (layer_of ts (term.Con 0 k [] []) (Term-F.Con 0 k [] []) v c (term.outs-Con 0 k [] []) means) in
-      let nothing : (is.vs ≡ []) × (c ≡ 0) = all_rest_on Q ts [] rho [] [] is.vs c is.all in
-      let fields : MeanAll Q us [] rho [] [] is.vs c = subst₂ (MeanAll Q us [] rho [] []) (sym nothing.0) (sym nothing.1) none in
-      of_layer_means Q us [] rho (term.Con 0 k [] []) (Term-F.Con 0 k [] []) v c (term.outs-Con 0 k [] []) (con fields is.is) }
+  truth_moves k = record {
+    to = λ v c means.
+        let is : OfCon Q ts [] rho [] 0 k [] v c =
+        rests_on Q ts [] rho [] (Term-F.Con 0 k [] []) v c (layer_of ts (term.Con 0 k [] []) (Term-F.Con 0 k [] []) v c (term.outs-Con 0 k [] []) means) in
+        let nothing : (is.vs ≡ []) × (c ≡ 0) = all_rest_on Q ts [] rho [] [] is.vs c is.all in
+        let fields : MeanAll Q us [] rho [] [] is.vs c = subst₂ (MeanAll Q us [] rho [] []) (sym nothing.0) (sym nothing.1) none in
+        of_layer_means Q us [] rho (term.Con 0 k [] []) (Term-F.Con 0 k [] []) v c (term.outs-Con 0 k [] []) (con fields is.is);
+  }
 
   -- What the terms mean under the one types, the others mean under the others.
   record AllMove (cs ds : List Term) : Type 0 where
@@ -78,45 +81,49 @@ module _ (Q : Program) (ts us : List Ty) (rho : List Value) where
   }
 
   more_move : (a b : Term) (cs ds : List Term) → Moves Q ts us rho a b → AllMove cs ds → AllMove (a ∷ cs) (b ∷ ds)
-  more_move a b cs ds first others = record { to = λ vs c all.
-      let parts : OfMore Q ts [] rho [] a cs vs c = all_rest_on Q ts [] rho [] (a ∷ cs) vs c all in
-      subst (λ (vs : List Value). MeanAll Q us [] rho [] (b ∷ ds) vs c) (sym parts.is)
-          (more (first.to parts.v parts.a parts.means) (others.to parts.vs parts.b parts.mean) parts.total) }
+  more_move a b cs ds first others = record {
+    to = λ vs c all.
+        let parts : OfMore Q ts [] rho [] a cs vs c = all_rest_on Q ts [] rho [] (a ∷ cs) vs c all in
+        subst (λ (vs : List Value). MeanAll Q us [] rho [] (b ∷ ds) vs c) (sym parts.is)
+        (more (first.to parts.v parts.a parts.means) (others.to parts.vs parts.b parts.mean) parts.total);
+  }
 
   variables_move : (ns : List ℕ) (cs ds : List Term) → AllMove cs ds → AllMove (map (λ (i : ℕ). term.Free i) ns ++ cs) (map (λ (i : ℕ). term.Free i) ns ++ ds)
   variables_move [] cs ds others = others
   variables_move (n ∷ ns) cs ds others =
       more_move (term.Free n) (term.Free n) (map (λ (i : ℕ). term.Free i) ns ++ cs) (map (λ (i : ℕ). term.Free i) ns ++ ds) (variable_moves n)
-          (variables_move ns cs ds others)
+      (variables_move ns cs ds others)
 
   module _ (s t : Subject) (f : Fun) (one : StandsFor ts s f) (other : StandsFor us t f) (long : length s.leading ≡ length t.leading) where
     arguments_of : Subject → Term → Term → List Term
     arguments_of r a b = map (λ (i : ℕ). term.Free i) (numbers_from 0 (length r.leading)) ++ a ∷ b ∷ []
 
     call_moves : (args others : List Term) → AllMove args others → Moves Q ts us rho (term.Call s.function s.given args) (term.Call t.function t.given others)
-    call_moves args others all = record { to = λ v c means.
-        let parts : OfCall Q ts [] rho [] s.function s.given args v c =
-            rests_on Q ts [] rho [] (Term-F.Call s.function s.given args) v c
-            (layer_of ts (term.Call s.function s.given args) (Term-F.Call s.function s.given args) v c (term.outs-Call s.function s.given args) means) in
-        let same : parts.g ≡ f = one_item parts.g f (sym parts.fun_means ∙ one.function) in
-        let no_functions : parts.gs ≡ [] =
-            nothing_meant ts [] parts.gs (subst (λ (given : List Fun). FunsMean ts [] given parts.gs) one.given parts.funs_mean) in
-        let gives : Gives Q f [] parts.vs v parts.b = subst₂ (λ (g : Fun) (gs : List Fun). Gives Q g gs parts.vs v parts.b) same no_functions parts.gives in
-        let none_given : FunsMean us [] t.given [] = subst (λ (given : List Fun). FunsMean us [] given []) (sym other.given) tt in
-        of_layer_means Q us [] rho (term.Call t.function t.given others) (Term-F.Call t.function t.given others) v c (term.outs-Call t.function t.given others)
-        (call (all.to parts.vs parts.a parts.all) other.function none_given gives parts.total) }
+    call_moves args others all = record {
+      to = λ v c means.
+          let parts : OfCall Q ts [] rho [] s.function s.given args v c =
+          rests_on Q ts [] rho [] (Term-F.Call s.function s.given args) v c
+          (layer_of ts (term.Call s.function s.given args) (Term-F.Call s.function s.given args) v c (term.outs-Call s.function s.given args) means) in
+          let same : parts.g ≡ f = one_item parts.g f (sym parts.fun_means ∙ one.function) in
+          let no_functions : parts.gs ≡ [] =
+          nothing_meant ts [] parts.gs (subst (λ (given : List Fun). FunsMean ts [] given parts.gs) one.given parts.funs_mean) in
+          let gives : Gives Q f [] parts.vs v parts.b = subst₂ (λ (g : Fun) (gs : List Fun). Gives Q g gs parts.vs v parts.b) same no_functions parts.gives in
+          let none_given : FunsMean us [] t.given [] = subst (λ (given : List Fun). FunsMean us [] given []) (sym other.given) tt in
+          of_layer_means Q us [] rho (term.Call t.function t.given others) (Term-F.Call t.function t.given others) v c (term.outs-Call t.function t.given others)
+          (call (all.to parts.vs parts.a parts.all) other.function none_given gives parts.total);
+    }
 
     both_move : {a b c d : Term} → Moves Q ts us rho a b → Moves Q ts us rho c d → Moves Q ts us rho (applied s a c) (applied t b d)
     both_move {a} {b} {c} {d} first second =
         let here : AllMove (map (λ (i : ℕ). term.Free i) (numbers_from 0 (length s.leading)) ++ a ∷ c ∷ [])
-            (map (λ (i : ℕ). term.Free i) (numbers_from 0 (length s.leading)) ++ b ∷ d ∷ []) = variables_move (numbers_from 0 (length s.leading)) (a ∷ c ∷ [])
-            (b ∷ d ∷ []) (more_move a b (c ∷ []) (d ∷ []) first (more_move c d [] [] second none_move)) in
+        (map (λ (i : ℕ). term.Free i) (numbers_from 0 (length s.leading)) ++ b ∷ d ∷ []) = variables_move (numbers_from 0 (length s.leading)) (a ∷ c ∷ [])
+        (b ∷ d ∷ []) (more_move a b (c ∷ []) (d ∷ []) first (more_move c d [] [] second none_move)) in
         let there : AllMove (map (λ (i : ℕ). term.Free i) (numbers_from 0 (length s.leading)) ++ a ∷ c ∷ [])
-            (map (λ (i : ℕ). term.Free i) (numbers_from 0 (length t.leading)) ++ b ∷ d ∷ []) = subst
-            (λ (n : ℕ). AllMove (map (λ (i : ℕ). term.Free i) (numbers_from 0 (length s.leading)) ++ a ∷ c ∷ [])
-            (map (λ (i : ℕ). term.Free i) (numbers_from 0 n) ++ b ∷ d ∷ [])) long here in
+        (map (λ (i : ℕ). term.Free i) (numbers_from 0 (length t.leading)) ++ b ∷ d ∷ []) = subst
+        (λ (n : ℕ). AllMove (map (λ (i : ℕ). term.Free i) (numbers_from 0 (length s.leading)) ++ a ∷ c ∷ [])
+        (map (λ (i : ℕ). term.Free i) (numbers_from 0 n) ++ b ∷ d ∷ [])) long here in
         call_moves (map (λ (i : ℕ). term.Free i) (numbers_from 0 (length s.leading)) ++ a ∷ c ∷ [])
-            (map (λ (i : ℕ). term.Free i) (numbers_from 0 (length t.leading)) ++ b ∷ d ∷ []) there
+        (map (λ (i : ℕ). term.Free i) (numbers_from 0 (length t.leading)) ++ b ∷ d ∷ []) there
 
     x_moves : Moves Q ts us rho (x_of s) (x_of t)
     x_moves = subst (λ (n : ℕ). Moves Q ts us rho (term.Free (length s.leading)) (term.Free n)) long (variable_moves (length s.leading))
@@ -311,7 +318,7 @@ module _ (Q : Program) (typed : IsTyped Q) (n : ℕ) (D : definition.Def) (found
   params_at : tys_instance ts (tys_instance (own_types D.tparams) D.params) ≡ tys_instance ts D.params
   params_at =
       let over : AreTypes Q (length (own_types D.tparams)) D.params =
-          subst (λ (k : ℕ). AreTypes Q k D.params) own_long (written_types Q D.tparams D.params signature.params) in
+      subst (λ (k : ℕ). AreTypes Q k D.params) own_long (written_types Q D.tparams D.params signature.params) in
       instances_twice Q ts (own_types D.tparams) over ∙ ap (λ (types : List Ty). tys_instance types D.params) own_put_in
 
   result_there : ty_instance ts (ty_instance (own_types D.tparams) D.result) ≡ ty_instance ts D.result
@@ -332,7 +339,7 @@ module _ (Q : Program) (typed : IsTyped Q) (n : ℕ) (D : definition.Def) (found
   params_shape : tys_instance ts D.params ≡ t.leading ++ t.last ∷ t.last ∷ []
   params_shape =
       let own : subject.params ≡ tys_instance (own_types D.tparams) D.params =
-          takes_own.params_are ∙ ap (λ (E : definition.Def). tys_instance (own_types D.tparams) E.params) same_definition in
+      takes_own.params_are ∙ ap (λ (E : definition.Def). tys_instance (own_types D.tparams) E.params) same_definition in
       sym params_at ∙ ap (tys_instance ts) (sym own ∙ subject.shape) ∙ map-append (ty_instance ts) s.leading (s.last ∷ s.last ∷ [])
 
   is_subject : IsSubject Q (functions_alone 0 []) f [] t
@@ -351,7 +358,7 @@ module _ (Q : Program) (typed : IsTyped Q) (n : ℕ) (D : definition.Def) (found
   own_stands =
       let none_given : own_functions (length D.funs) ≡ [] = ap (λ (Fs : List FnType). own_functions (length Fs)) none_taken in
       let same : Some (record { head = Def n; types = tys_instance ts (own_types D.tparams) }) ≡ Some f =
-          λ i. Some (record { head = Def n; types = own_put_in i }) in
+      λ i. Some (record { head = Def n; types = own_put_in i }) in
       record { function = subst (λ (g : Fun). FunMeans ts [] g f) (sym subject.is_function) same; given = subject.is_given ∙ none_given }
 
   itself_stands : StandsFor [] t f
@@ -372,10 +379,12 @@ module _ (Q : Program) (typed : IsTyped Q) (n : ℕ) (D : definition.Def) (found
 
   -- what is true of the clause at these types is true of the function alone
   alone : (p : Prop) → IsTrueOfAll Q ts [] (clause_for s p D.tparams D.funs) → IsTrueOfAll Q [] [] (clause_for t p 0 [])
-  alone p is_true = record { at = λ rho are premises.
-      let there : AreIn Q (tys_instance ts (clause_for s p D.tparams D.funs).vars) rho = subst (λ (types : List Ty). AreIn Q types rho) (variables_at p) are in
-      let before : AreTrueAt Q ts [] rho (says s p).premises = said_premises Q [] ts rho t s f itself_stands own_stands (sym as_long) p premises in
-      said_alternatives Q ts [] rho s t f own_stands itself_stands as_long p (is_true.at rho there before) }
+  alone p is_true = record {
+    at = λ rho are premises.
+        let there : AreIn Q (tys_instance ts (clause_for s p D.tparams D.funs).vars) rho = subst (λ (types : List Ty). AreIn Q types rho) (variables_at p) are in
+        let before : AreTrueAt Q ts [] rho (says s p).premises = said_premises Q [] ts rho t s f itself_stands own_stands (sym as_long) p premises in
+        said_alternatives Q ts [] rho s t f own_stands itself_stands as_long p (is_true.at rho there before);
+  }
 
   no_functions_fit : FunctionsFit Q ts D.funs []
   no_functions_fit = subst (λ (Fs : List FnType). FunctionsFit Q ts Fs []) (sym none_taken) extending.none
@@ -390,7 +399,7 @@ declared_is_had Q founded n D found none_taken p clause says_it holds ts long gr
     let it : OfProperty Q n p clause = clause_rests_on Q says_it in
     let same : it.D ≡ D = one_item it.D D (sym it.found ∙ found) in
     let subject : IsSubject Q (functions_alone D.tparams D.funs) (record { head = Def n; types = own_types D.tparams }) (own_functions (length D.funs)) it.s =
-        subst (λ (D : definition.Def). IsSubject Q (functions_alone D.tparams D.funs) (record { head = Def n; types = own_types D.tparams })
-            (own_functions (length D.funs)) it.s) same it.subject in
+    subst (λ (D : definition.Def). IsSubject Q (functions_alone D.tparams D.funs) (record { head = Def n; types = own_types D.tparams })
+    (own_functions (length D.funs)) it.s) same it.subject in
     let is : clause ≡ clause_for it.s p D.tparams D.funs = it.is ∙ ap (λ (D : definition.Def). clause_for it.s p D.tparams D.funs) same in
     had Q founded.typed n D found none_taken ts long ground it.s subject p clause it.result is holds
