@@ -1,5 +1,6 @@
 -- Where the clause of a property of a definition without function parameters holds, the definition has the property at all ground types.
-use Rattle.std.proofs.Common.{◌≡◌, ℕ, zero, suc, ◌+◌, List, [], ◌∷◌, ◌++◌, map, replicate, length, Option, Some, None, slice_get, refl, sym, ap, ◌∙◌, subst, subst₂, arith}
+use Rattle.std.proofs.Common.{◌≡◌, ℕ, zero, suc, ◌+◌, List, [], ◌∷◌, ◌++◌, map, replicate, length, Some, slice_get, refl, sym, ap, ◌∙◌, subst}
+use Rattle.std.proofs.Common.{subst₂}
 use Rattle.std.proofs.lemmas.List.{map-append, length-map}
 use Rattle.px_terms.specs.Head.{Head}
 use Rattle.px_terms.specs.Head.TheVariants.{Def, Wle, Weq, FnVar}
@@ -13,7 +14,6 @@ use Rattle.px_terms.specs.declared.term.Term.{Term, out-Term}
 use Rattle.px_terms.specs.declared.term.Term.TheOpen.{Term-F}
 use Rattle.px_terms.specs.declared.term.Term.TheVariants as term
 use Rattle.px_terms.specs.declared.term.Value.{Value}
-use Rattle.px_terms.specs.declared.term.Value.TheVariants as value
 use Rattle.px_terms.specs.declared.clause.Equation.{Equation}
 use Rattle.px_terms.specs.declared.clause.Clause.{Clause}
 use Rattle.px_terms.specs.declared.program.Def as definition
@@ -21,7 +21,7 @@ use Rattle.px_terms.specs.declared.program.Program.{Program}
 use Rattle.px_terms.specs.declared.sequent.Context.{Context}
 use Rattle.px_terms.specs.Types.{numbers_from, ty_instance, tys_instance, fn_type_instance, own_types, own_functions}
 use Rattle.px_terms.specs.TreeEquations.{ty_instance-Con}
-use Rattle.px_terms.specs.Programs.{bool_type, false_term, true_term}
+use Rattle.px_terms.specs.Programs.{bool_type}
 use Rattle.px_terms.specs.Values.{AreIn}
 use Rattle.px_terms.specs.Meaning.{FunMeans, FunsMean, MeansOf, MeanAll, Means, Gives, free, con, call, none, more}
 use Rattle.px_terms.specs.Typing.{IsType, AreTypes, IsFunction}
@@ -52,53 +52,78 @@ module _ (Q : Program) (ts us : List Ty) (rho : List Value) where
   layer_of types t y v c e means = subst (λ (y : Term-F Term). MeansOf Q types [] rho [] y v c) e means
 
   variable_moves : (i : ℕ) → Moves Q ts us rho (term.Free i) (term.Free i)
-  variable_moves i = record { to = λ v c means.
-      let is : (slice_get rho i ≡ Some v) × (c ≡ 0) = rests_on Q ts [] rho [] (Term-F.Free i) v c (layer_of ts (term.Free i) (Term-F.Free i) v c (term.outs-Free i) means) in
-      subst (Means Q us [] rho (term.Free i) v) (sym is.1) (of_layer_means Q us [] rho (term.Free i) (Term-F.Free i) v 0 (term.outs-Free i) (free is.0)) }
+  variable_moves i = record {
+    to = λ v c means.
+        let is : (slice_get rho i ≡ Some v) × (c ≡ 0) =
+        rests_on Q ts [] rho [] (Term-F.Free i) v c (layer_of ts (term.Free i) (Term-F.Free i) v c (term.outs-Free i) means) in
+        subst (Means Q us [] rho (term.Free i) v) (sym is.1) (of_layer_means Q us [] rho (term.Free i) (Term-F.Free i) v 0 (term.outs-Free i) (free is.0));
+  }
 
   truth_moves : (k : ℕ) → Moves Q ts us rho (term.Con 0 k [] []) (term.Con 0 k [] [])
-  truth_moves k = record { to = λ v c means.
-      let is : OfCon Q ts [] rho [] 0 k [] v c = rests_on Q ts [] rho [] (Term-F.Con 0 k [] []) v c (layer_of ts (term.Con 0 k [] []) (Term-F.Con 0 k [] []) v c (term.outs-Con 0 k [] []) means) in
-      let nothing : (is.vs ≡ []) × (c ≡ 0) = all_rest_on Q ts [] rho [] [] is.vs c is.all in
-      let fields : MeanAll Q us [] rho [] [] is.vs c = subst₂ (MeanAll Q us [] rho [] []) (sym nothing.0) (sym nothing.1) none in
-      of_layer_means Q us [] rho (term.Con 0 k [] []) (Term-F.Con 0 k [] []) v c (term.outs-Con 0 k [] []) (con fields is.is) }
+  truth_moves k = record {
+    to = λ v c means.
+        let is : OfCon Q ts [] rho [] 0 k [] v c =
+        rests_on Q ts [] rho [] (Term-F.Con 0 k [] []) v c (layer_of ts (term.Con 0 k [] []) (Term-F.Con 0 k [] []) v c (term.outs-Con 0 k [] []) means) in
+        let nothing : (is.vs ≡ []) × (c ≡ 0) = all_rest_on Q ts [] rho [] [] is.vs c is.all in
+        let fields : MeanAll Q us [] rho [] [] is.vs c = subst₂ (MeanAll Q us [] rho [] []) (sym nothing.0) (sym nothing.1) none in
+        of_layer_means Q us [] rho (term.Con 0 k [] []) (Term-F.Con 0 k [] []) v c (term.outs-Con 0 k [] []) (con fields is.is);
+  }
 
   -- What the terms mean under the one types, the others mean under the others.
   record AllMove (cs ds : List Term) : Type 0 where
     to : (vs : List Value) (c : ℕ) → MeanAll Q ts [] rho [] cs vs c → MeanAll Q us [] rho [] ds vs c
 
   none_move : AllMove [] []
-  none_move = record { to = λ vs c all. let nothing : (vs ≡ []) × (c ≡ 0) = all_rest_on Q ts [] rho [] [] vs c all in subst₂ (MeanAll Q us [] rho [] []) (sym nothing.0) (sym nothing.1) none }
+  none_move = record {
+    to =
+        λ vs c all. let nothing : (vs ≡ []) × (c ≡ 0) = all_rest_on Q ts [] rho [] [] vs c all in subst₂ (MeanAll Q us [] rho [] []) (sym nothing.0)
+        (sym nothing.1) none;
+  }
 
   more_move : (a b : Term) (cs ds : List Term) → Moves Q ts us rho a b → AllMove cs ds → AllMove (a ∷ cs) (b ∷ ds)
-  more_move a b cs ds first others = record { to = λ vs c all.
-      let parts : OfMore Q ts [] rho [] a cs vs c = all_rest_on Q ts [] rho [] (a ∷ cs) vs c all in
-      subst (λ (vs : List Value). MeanAll Q us [] rho [] (b ∷ ds) vs c) (sym parts.is) (more (first.to parts.v parts.a parts.means) (others.to parts.vs parts.b parts.mean) parts.total) }
+  more_move a b cs ds first others = record {
+    to = λ vs c all.
+        let parts : OfMore Q ts [] rho [] a cs vs c = all_rest_on Q ts [] rho [] (a ∷ cs) vs c all in
+        subst (λ (vs : List Value). MeanAll Q us [] rho [] (b ∷ ds) vs c) (sym parts.is)
+        (more (first.to parts.v parts.a parts.means) (others.to parts.vs parts.b parts.mean) parts.total);
+  }
 
   variables_move : (ns : List ℕ) (cs ds : List Term) → AllMove cs ds → AllMove (map (λ (i : ℕ). term.Free i) ns ++ cs) (map (λ (i : ℕ). term.Free i) ns ++ ds)
   variables_move [] cs ds others = others
   variables_move (n ∷ ns) cs ds others =
-      more_move (term.Free n) (term.Free n) (map (λ (i : ℕ). term.Free i) ns ++ cs) (map (λ (i : ℕ). term.Free i) ns ++ ds) (variable_moves n) (variables_move ns cs ds others)
+      more_move (term.Free n) (term.Free n) (map (λ (i : ℕ). term.Free i) ns ++ cs) (map (λ (i : ℕ). term.Free i) ns ++ ds) (variable_moves n)
+      (variables_move ns cs ds others)
 
   module _ (s t : Subject) (f : Fun) (one : StandsFor ts s f) (other : StandsFor us t f) (long : length s.leading ≡ length t.leading) where
     arguments_of : Subject → Term → Term → List Term
     arguments_of r a b = map (λ (i : ℕ). term.Free i) (numbers_from 0 (length r.leading)) ++ a ∷ b ∷ []
 
     call_moves : (args others : List Term) → AllMove args others → Moves Q ts us rho (term.Call s.function s.given args) (term.Call t.function t.given others)
-    call_moves args others all = record { to = λ v c means.
-        let parts : OfCall Q ts [] rho [] s.function s.given args v c = rests_on Q ts [] rho [] (Term-F.Call s.function s.given args) v c (layer_of ts (term.Call s.function s.given args) (Term-F.Call s.function s.given args) v c (term.outs-Call s.function s.given args) means) in
-        let same : parts.g ≡ f = one_item parts.g f (sym parts.fun_means ∙ one.function) in
-        let no_functions : parts.gs ≡ [] = nothing_meant ts [] parts.gs (subst (λ (given : List Fun). FunsMean ts [] given parts.gs) one.given parts.funs_mean) in
-        let gives : Gives Q f [] parts.vs v parts.b = subst₂ (λ (g : Fun) (gs : List Fun). Gives Q g gs parts.vs v parts.b) same no_functions parts.gives in
-        let none_given : FunsMean us [] t.given [] = subst (λ (given : List Fun). FunsMean us [] given []) (sym other.given) tt in
-        of_layer_means Q us [] rho (term.Call t.function t.given others) (Term-F.Call t.function t.given others) v c (term.outs-Call t.function t.given others)
-        (call (all.to parts.vs parts.a parts.all) other.function none_given gives parts.total) }
+    call_moves args others all = record {
+      to = λ v c means.
+          let parts : OfCall Q ts [] rho [] s.function s.given args v c =
+          rests_on Q ts [] rho [] (Term-F.Call s.function s.given args) v c
+          (layer_of ts (term.Call s.function s.given args) (Term-F.Call s.function s.given args) v c (term.outs-Call s.function s.given args) means) in
+          let same : parts.g ≡ f = one_item parts.g f (sym parts.fun_means ∙ one.function) in
+          let no_functions : parts.gs ≡ [] =
+          nothing_meant ts [] parts.gs (subst (λ (given : List Fun). FunsMean ts [] given parts.gs) one.given parts.funs_mean) in
+          let gives : Gives Q f [] parts.vs v parts.b = subst₂ (λ (g : Fun) (gs : List Fun). Gives Q g gs parts.vs v parts.b) same no_functions parts.gives in
+          let none_given : FunsMean us [] t.given [] = subst (λ (given : List Fun). FunsMean us [] given []) (sym other.given) tt in
+          of_layer_means Q us [] rho (term.Call t.function t.given others) (Term-F.Call t.function t.given others) v c (term.outs-Call t.function t.given others)
+          (call (all.to parts.vs parts.a parts.all) other.function none_given gives parts.total);
+    }
 
     both_move : {a b c d : Term} → Moves Q ts us rho a b → Moves Q ts us rho c d → Moves Q ts us rho (applied s a c) (applied t b d)
     both_move {a} {b} {c} {d} first second =
-        let here : AllMove (map (λ (i : ℕ). term.Free i) (numbers_from 0 (length s.leading)) ++ a ∷ c ∷ []) (map (λ (i : ℕ). term.Free i) (numbers_from 0 (length s.leading)) ++ b ∷ d ∷ []) = variables_move (numbers_from 0 (length s.leading)) (a ∷ c ∷ []) (b ∷ d ∷ []) (more_move a b (c ∷ []) (d ∷ []) first (more_move c d [] [] second none_move)) in
-        let there : AllMove (map (λ (i : ℕ). term.Free i) (numbers_from 0 (length s.leading)) ++ a ∷ c ∷ []) (map (λ (i : ℕ). term.Free i) (numbers_from 0 (length t.leading)) ++ b ∷ d ∷ []) = subst (λ (n : ℕ). AllMove (map (λ (i : ℕ). term.Free i) (numbers_from 0 (length s.leading)) ++ a ∷ c ∷ []) (map (λ (i : ℕ). term.Free i) (numbers_from 0 n) ++ b ∷ d ∷ [])) long here in
-        call_moves (map (λ (i : ℕ). term.Free i) (numbers_from 0 (length s.leading)) ++ a ∷ c ∷ []) (map (λ (i : ℕ). term.Free i) (numbers_from 0 (length t.leading)) ++ b ∷ d ∷ []) there
+        let here : AllMove (map (λ (i : ℕ). term.Free i) (numbers_from 0 (length s.leading)) ++ a ∷ c ∷ [])
+        (map (λ (i : ℕ). term.Free i) (numbers_from 0 (length s.leading)) ++ b ∷ d ∷ []) = variables_move (numbers_from 0 (length s.leading)) (a ∷ c ∷ [])
+        (b ∷ d ∷ []) (more_move a b (c ∷ []) (d ∷ []) first (more_move c d [] [] second none_move)) in
+        let there : AllMove (map (λ (i : ℕ). term.Free i) (numbers_from 0 (length s.leading)) ++ a ∷ c ∷ [])
+        (map (λ (i : ℕ). term.Free i) (numbers_from 0 (length t.leading)) ++ b ∷ d ∷ []) = subst
+        (λ (n : ℕ). AllMove (map (λ (i : ℕ). term.Free i) (numbers_from 0 (length s.leading)) ++ a ∷ c ∷ [])
+        (map (λ (i : ℕ). term.Free i) (numbers_from 0 n) ++ b ∷ d ∷ [])) long here in
+        call_moves (map (λ (i : ℕ). term.Free i) (numbers_from 0 (length s.leading)) ++ a ∷ c ∷ [])
+        (map (λ (i : ℕ). term.Free i) (numbers_from 0 (length t.leading)) ++ b ∷ d ∷ []) there
 
     x_moves : Moves Q ts us rho (x_of s) (x_of t)
     x_moves = subst (λ (n : ℕ). Moves Q ts us rho (term.Free (length s.leading)) (term.Free n)) long (variable_moves (length s.leading))
@@ -112,7 +137,8 @@ module _ (Q : Program) (ts us : List Ty) (rho : List Value) where
     -- where the one equations are true, the others are
     data EquationsMove : List Equation → List Equation → Type 0 where
       no_equation : EquationsMove [] []
-      equation : {l r l2 r2 : Term} {es fs : List Equation} → Moves Q ts us rho l l2 → Moves Q ts us rho r r2 → EquationsMove es fs → EquationsMove (equals l r ∷ es) (equals l2 r2 ∷ fs)
+      equation : {l r l2 r2 : Term} {es fs : List Equation} → Moves Q ts us rho l l2 → Moves Q ts us rho r r2 → EquationsMove es fs →
+          EquationsMove (equals l r ∷ es) (equals l2 r2 ∷ fs)
 
     true_moves : {l r l2 r2 : Term} → Moves Q ts us rho l l2 → Moves Q ts us rho r r2 → IsTrueAt Q ts [] rho (equals l r) → IsTrueAt Q us [] rho (equals l2 r2)
     true_moves left right is = (is.0, is.1, is.2, left.to is.0 is.1 is.3, right.to is.0 is.2 is.4)
@@ -189,7 +215,14 @@ ClauseRestsOn Q Weq p clause = Unit {0}
 ClauseRestsOn Q (FnVar i) p clause = Unit {0}
 
 clause_rests_on : (Q : Program) {funs : List FnType} {h : Head} {p : Prop} {clause : Clause} → IsClauseOf Q funs h p clause → ClauseRestsOn Q h p clause
-clause_rests_on Q (clauses.of_definition {D = D} found s subject result is) = record { D = D; s = s; found = found; subject = subject; result = result; is = is }
+clause_rests_on Q (clauses.of_definition {D = D} found s subject result is) = record {
+  D = D;
+  s = s;
+  found = found;
+  subject = subject;
+  result = result;
+  is = is;
+}
 clause_rests_on Q (clauses.of_at_most s subject result is) = tt
 clause_rests_on Q (clauses.of_equal s subject result is) = tt
 clause_rests_on Q (clauses.of_variable s subject result is) = tt
@@ -208,8 +241,14 @@ TakenBy Q Wle types params T = Unit {0}
 TakenBy Q Weq types params T = Unit {0}
 TakenBy Q (FnVar i) types params T = Unit {0}
 
-taken_by : (Q : Program) {context : Context} {f : Fun} {takes : List FnType} {params : List Ty} {T : Ty} → IsFunction Q context f takes params T → TakenBy Q f.head f.types params T
-taken_by Q (typing.of_definition {D = D} found count are takes_are params_are result_is) = record { D = D; found = found; params_are = params_are; result_is = result_is }
+taken_by : (Q : Program) {context : Context} {f : Fun} {takes : List FnType} {params : List Ty} {T : Ty} → IsFunction Q context f takes params T →
+    TakenBy Q f.head f.types params T
+taken_by Q (typing.of_definition {D = D} found count are takes_are params_are result_is) = record {
+  D = D;
+  found = found;
+  params_are = params_are;
+  result_is = result_is;
+}
 taken_by Q (typing.at_most is) = tt
 taken_by Q (typing.equal is) = tt
 taken_by Q (typing.of_variable found params_are result_is) = tt
@@ -257,7 +296,9 @@ module _ (ts : List Ty) (f : Fun) (s : Subject) where
   result_at Trans e = same_bool e
   result_at Conn e = same_bool e
 
-module _ (Q : Program) (typed : IsTyped Q) (n : ℕ) (D : definition.Def) (found : slice_get Q.defs n ≡ Some D) (none_taken : D.funs ≡ []) (ts : List Ty) (long : length ts ≡ D.tparams) (ground : AreTypes Q 0 ts) (s : Subject) (subject : IsSubject Q (functions_alone D.tparams D.funs) (record { head = Def n; types = own_types D.tparams }) (own_functions (length D.funs)) s) where
+module _ (Q : Program) (typed : IsTyped Q) (n : ℕ) (D : definition.Def) (found : slice_get Q.defs n ≡ Some D) (none_taken : D.funs ≡ []) (ts : List Ty)
+    (long : length ts ≡ D.tparams) (ground : AreTypes Q 0 ts) (s : Subject)
+    (subject : IsSubject Q (functions_alone D.tparams D.funs) (record { head = Def n; types = own_types D.tparams }) (own_functions (length D.funs)) s) where
   abbrev f : Fun
   f = record { head = Def n; types = ts }
 
@@ -276,7 +317,8 @@ module _ (Q : Program) (typed : IsTyped Q) (n : ℕ) (D : definition.Def) (found
   -- the definition's parameters over its own types, at these types
   params_at : tys_instance ts (tys_instance (own_types D.tparams) D.params) ≡ tys_instance ts D.params
   params_at =
-      let over : AreTypes Q (length (own_types D.tparams)) D.params = subst (λ (k : ℕ). AreTypes Q k D.params) own_long (written_types Q D.tparams D.params signature.params) in
+      let over : AreTypes Q (length (own_types D.tparams)) D.params =
+      subst (λ (k : ℕ). AreTypes Q k D.params) own_long (written_types Q D.tparams D.params signature.params) in
       instances_twice Q ts (own_types D.tparams) over ∙ ap (λ (types : List Ty). tys_instance types D.params) own_put_in
 
   result_there : ty_instance ts (ty_instance (own_types D.tparams) D.result) ≡ ty_instance ts D.result
@@ -297,7 +339,7 @@ module _ (Q : Program) (typed : IsTyped Q) (n : ℕ) (D : definition.Def) (found
   params_shape : tys_instance ts D.params ≡ t.leading ++ t.last ∷ t.last ∷ []
   params_shape =
       let own : subject.params ≡ tys_instance (own_types D.tparams) D.params =
-          takes_own.params_are ∙ ap (λ (E : definition.Def). tys_instance (own_types D.tparams) E.params) same_definition in
+      takes_own.params_are ∙ ap (λ (E : definition.Def). tys_instance (own_types D.tparams) E.params) same_definition in
       sym params_at ∙ ap (tys_instance ts) (sym own ∙ subject.shape) ∙ map-append (ty_instance ts) s.leading (s.last ∷ s.last ∷ [])
 
   is_subject : IsSubject Q (functions_alone 0 []) f [] t
@@ -315,11 +357,14 @@ module _ (Q : Program) (typed : IsTyped Q) (n : ℕ) (D : definition.Def) (found
   own_stands : StandsFor ts s f
   own_stands =
       let none_given : own_functions (length D.funs) ≡ [] = ap (λ (Fs : List FnType). own_functions (length Fs)) none_taken in
-      let same : Some (record { head = Def n; types = tys_instance ts (own_types D.tparams) }) ≡ Some f = λ i. Some (record { head = Def n; types = own_put_in i }) in
+      let same : Some (record { head = Def n; types = tys_instance ts (own_types D.tparams) }) ≡ Some f =
+      λ i. Some (record { head = Def n; types = own_put_in i }) in
       record { function = subst (λ (g : Fun). FunMeans ts [] g f) (sym subject.is_function) same; given = subject.is_given ∙ none_given }
 
   itself_stands : StandsFor [] t f
-  itself_stands = let same : tys_instance [] ts ≡ ts = nothing_put_in ts in record { function = λ i. Some (record { head = Def n; types = same i }); given = refl }
+  itself_stands =
+      let same : tys_instance [] ts ≡ ts = nothing_put_in ts in
+      record { function = λ i. Some (record { head = Def n; types = same i }); given = refl }
 
   as_long : length s.leading ≡ length t.leading
   as_long = sym (length-map s.leading (ty_instance ts))
@@ -334,10 +379,12 @@ module _ (Q : Program) (typed : IsTyped Q) (n : ℕ) (D : definition.Def) (found
 
   -- what is true of the clause at these types is true of the function alone
   alone : (p : Prop) → IsTrueOfAll Q ts [] (clause_for s p D.tparams D.funs) → IsTrueOfAll Q [] [] (clause_for t p 0 [])
-  alone p is_true = record { at = λ rho are premises.
-      let there : AreIn Q (tys_instance ts (clause_for s p D.tparams D.funs).vars) rho = subst (λ (types : List Ty). AreIn Q types rho) (variables_at p) are in
-      let before : AreTrueAt Q ts [] rho (says s p).premises = said_premises Q [] ts rho t s f itself_stands own_stands (sym as_long) p premises in
-      said_alternatives Q ts [] rho s t f own_stands itself_stands as_long p (is_true.at rho there before) }
+  alone p is_true = record {
+    at = λ rho are premises.
+        let there : AreIn Q (tys_instance ts (clause_for s p D.tparams D.funs).vars) rho = subst (λ (types : List Ty). AreIn Q types rho) (variables_at p) are in
+        let before : AreTrueAt Q ts [] rho (says s p).premises = said_premises Q [] ts rho t s f itself_stands own_stands (sym as_long) p premises in
+        said_alternatives Q ts [] rho s t f own_stands itself_stands as_long p (is_true.at rho there before);
+  }
 
   no_functions_fit : FunctionsFit Q ts D.funs []
   no_functions_fit = subst (λ (Fs : List FnType). FunctionsFit Q ts Fs []) (sym none_taken) extending.none
@@ -352,6 +399,7 @@ declared_is_had Q founded n D found none_taken p clause says_it holds ts long gr
     let it : OfProperty Q n p clause = clause_rests_on Q says_it in
     let same : it.D ≡ D = one_item it.D D (sym it.found ∙ found) in
     let subject : IsSubject Q (functions_alone D.tparams D.funs) (record { head = Def n; types = own_types D.tparams }) (own_functions (length D.funs)) it.s =
-        subst (λ (D : definition.Def). IsSubject Q (functions_alone D.tparams D.funs) (record { head = Def n; types = own_types D.tparams }) (own_functions (length D.funs)) it.s) same it.subject in
+    subst (λ (D : definition.Def). IsSubject Q (functions_alone D.tparams D.funs) (record { head = Def n; types = own_types D.tparams })
+    (own_functions (length D.funs)) it.s) same it.subject in
     let is : clause ≡ clause_for it.s p D.tparams D.funs = it.is ∙ ap (λ (D : definition.Def). clause_for it.s p D.tparams D.funs) same in
     had Q founded.typed n D found none_taken ts long ground it.s subject p clause it.result is holds

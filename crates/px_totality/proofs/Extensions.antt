@@ -1,20 +1,18 @@
 -- Extensions of extensions; and a definition that gives its first value is not commutative.
-use Rattle.std.proofs.Common.{◌≡◌, ℕ, List, [], ◌∷◌, ◌++◌, Option, Some, slice_get, append_assoc, append-nil, refl, sym, ap, ◌∙◌, subst}
+use Rattle.std.proofs.Common.{◌≡◌, List, [], ◌∷◌, ◌++◌, Some, append_assoc, append-nil, refl, sym, ap, ◌∙◌, subst}
 use Rattle.std.specs.Option.{option_map}
 use Rattle.px_terms.specs.Head.TheVariants.{Def}
 use Rattle.px_terms.specs.Prop.TheVariants.{Comm}
 use Rattle.px_terms.specs.declared.types.Ty.{Ty}
 use Rattle.px_terms.specs.declared.types.Fun.{Fun}
-use Rattle.px_terms.specs.declared.term.Term.{Term}
 use Rattle.px_terms.specs.declared.term.Term.TheVariants as term
-use Rattle.px_terms.specs.declared.term.Value.{Value}
 use Rattle.px_terms.specs.declared.program.Def as definition
 use Rattle.px_terms.specs.declared.program.Program.{Program}
 use Rattle.px_terms.specs.Programs.{body_of}
 use Rattle.px_terms.specs.Types.{tys_instance}
 use Rattle.px_terms.specs.Values.{IsIn, AreIn}
 use Rattle.px_terms.specs.Values as values
-use Rattle.px_terms.specs.Meaning.{Means, Gives, defined}
+use Rattle.px_terms.specs.Meaning.{defined}
 use Rattle.px_terms.specs.Typing as typing
 use Rattle.px_terms.specs.Clauses.{Subject}
 use Rattle.px_terms.specs.Extending.{BeginsWith, IsWellFounded, IsExtension, HasInProgram}
@@ -30,7 +28,10 @@ begins_itself : {A : Type 0} (xs : List A) → BeginsWith xs xs
 begins_itself xs = record { more = []; is = sym (append-nil xs) }
 
 begins_further : {A : Type 0} (xs ys zs : List A) → BeginsWith zs ys → BeginsWith ys xs → BeginsWith zs xs
-begins_further {A} xs ys zs late early = record { more = early.more ++ late.more; is = late.is ∙ ap (λ (front : List A). front ++ late.more) early.is ∙ append_assoc xs early.more late.more }
+begins_further {A} xs ys zs late early = record {
+  more = early.more ++ late.more;
+  is = late.is ∙ ap (λ (front : List A). front ++ late.more) early.is ∙ append_assoc xs early.more late.more;
+}
 
 extends_itself : (P : Program) → IsWellFounded P → IsExtension P P
 extends_itself P founded = record {
@@ -58,9 +59,12 @@ extensions_compose = record { itself = extends_itself; further = extends_further
 pub first_is_not_commutative : FirstIsNotCommutative
 first_is_not_commutative P founded n D T found no_types no_funs params body v w in_v in_w differ clause says_it holds =
     let f : Fun = record { head = Def n; types = [] } in
-    let h : HasInProgram P f Comm = declared_is_had P founded n D found no_funs Comm clause says_it (holds.in_each P (extends_itself P founded)) [] (sym no_types) typing.none in
+    let h : HasInProgram P f Comm =
+    declared_is_had P founded n D found no_funs Comm clause says_it (holds.in_each P (extends_itself P founded)) [] (sym no_types) typing.none in
     let s : Subject = h.subject in
-    let one : (h.is_subject.params ≡ tys_instance [] D.params) × (s.result ≡ _) = one_type P f h.is_subject.takes _ h.is_subject.params (tys_instance [] D.params) s.result _ h.is_subject.function (typing.of_definition {D = D} found (sym no_types) typing.none refl refl refl) in
+    let one : (h.is_subject.params ≡ tys_instance [] D.params) × (s.result ≡ _) =
+    one_type P f h.is_subject.takes _ h.is_subject.params (tys_instance [] D.params) s.result _ h.is_subject.function
+    (typing.of_definition {D = D} found (sym no_types) typing.none refl refl refl) in
     let ends : (s.leading ≡ []) × (s.last ≡ T) = same_ends s.leading [] s.last T (sym h.is_subject.shape ∙ one.0 ∙ nothing_put_in D.params ∙ params) in
     let no_leading : AreIn P s.leading [] = subst (λ (types : List Ty). AreIn P types []) (sym ends.0) values.none in
     let last_v : IsIn P s.last v = subst (λ (T : Ty). IsIn P T v) (sym ends.1) in_v in

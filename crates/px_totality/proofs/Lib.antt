@@ -1,4 +1,5 @@
 pub mod Applied
+pub mod ArgumentsFit
 pub mod Calls
 pub mod Closed
 pub mod Declared

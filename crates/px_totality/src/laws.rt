@@ -1,4 +1,4 @@
-ghost use Rattle.px_totality.specs.Laws.{EachCallHasValue, EachFunctionHasValue, EachTermHasValue};
+ghost use Rattle.px_totality.specs.Laws.{EachCallHasValue, EachFunctionHasValue, EachTermHasValue, ExtensionsCompose};
 
 /// In every program that is typed and descends, a call of a definition at ground types, on functions that fit
 /// and values of its parameters' types, has exactly one value and one number of calls, and the value is in the
@@ -17,4 +17,9 @@ pub fn each_function_has_value()
 /// type: at any place, at ground types, on functions that fit and values that fit its variables.
 pub fn each_term_has_value()
     ensures { EachTermHasValue }
+{}
+
+/// A program that is typed and descends is an extension of itself, and an extension of an extension is one.
+pub fn extensions_compose()
+    ensures { ExtensionsCompose }
 {}

@@ -10,6 +10,12 @@ mod example_laws;
 mod laws;
 mod property_laws;
 
-pub use example_laws::{empty_holds_of_nothing, same_of_any_fails, same_of_idempotent_holds};
-pub use laws::{each_call_has_value, each_function_has_value, each_term_has_value};
-pub use property_laws::{built_ins_have, built_ins_lack, implied_is_true};
+pub use example_laws::{
+    empty_holds_of_nothing, first_is_not_commutative, same_of_any_fails, same_of_idempotent_holds,
+};
+pub use laws::{
+    each_call_has_value, each_function_has_value, each_term_has_value, extensions_compose,
+};
+pub use property_laws::{
+    arguments_fit, built_ins_have, built_ins_lack, declared_is_had, implied_is_true,
+};

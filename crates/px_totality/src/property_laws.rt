@@ -1,4 +1,4 @@
-ghost use Rattle.px_totality.specs.PropertyLaws.{BuiltInsHave, BuiltInsLack, ImpliedIsTrue};
+ghost use Rattle.px_totality.specs.PropertyLaws.{ArgumentsFit, BuiltInsHave, BuiltInsLack, DeclaredIsHad, ImpliedIsTrue};
 
 /// In every program that is typed and descends, what properties that a function has imply, it has: the closure
 /// adds nothing that is not true.
@@ -14,4 +14,16 @@ pub fn built_ins_have()
 /// In no such program is `wle` commutative, since its values are not, or idempotent, since that does not fit its type.
 pub fn built_ins_lack()
     ensures { BuiltInsLack }
+{}
+
+/// In every such program a definition without function parameters has, at all ground types, each property whose
+/// clause holds in the program.
+pub fn declared_is_had()
+    ensures { DeclaredIsHad }
+{}
+
+/// In every such program, where each obligation before a place holds, functions that are typed as arguments there
+/// stand for functions that fit, with all the properties that are assumed of them.
+pub fn arguments_fit()
+    ensures { ArgumentsFit }
 {}

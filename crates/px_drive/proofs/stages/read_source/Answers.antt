@@ -1,6 +1,6 @@
 use Rattle.std.proofs.Common.{ap, arith, length, subst}
 use Rattle.px_lexer.specs.Tokens.{AreTokens}
-use Rattle.px_types.specs.ProgramEnds.{IsEnd}
+use Rattle.px_types.specs.Checkings.{IsEnd}
 use Rattle.px_drive.specs.Sources.{IsNumbered}
 use Rattle.px_drive.proofs.Sources.{no_tokens, no_tree, no_numbers, no_types, no_descent}
 use Rattle.px_drive.proofs.stages.read_source.Goals as goal

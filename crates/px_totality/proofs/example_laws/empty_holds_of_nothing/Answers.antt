@@ -1,4 +1,3 @@
-use Rattle.px_totality.proofs.Extensions.{extensions_compose}
 use Rattle.px_totality.proofs.Examples.{empty_holds_of_nothing}
 use Rattle.px_totality.proofs.example_laws.empty_holds_of_nothing.Goals as goal
 
