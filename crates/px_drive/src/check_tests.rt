@@ -176,10 +176,7 @@ def f(a: L, b: L): L with assoc, idem { match a { N => b, K(x, xs) => K(x, f(xs,
         b"def f<A, B>(a: A, b: B): A { f<B, A>(a, b) }",
         "source: type mismatch at 29\n",
     ),
-    (
-        b"lemma l(a: Bool): a = 5",
-        "source: type mismatch at 22\n",
-    ),
+    (b"lemma l(a: Bool): a = 5", "source: type mismatch at 22\n"),
     (
         b"data Nat { Z, S(Nat) }\n\
 def zig(a: Nat, b: Nat): Nat { match a { Z => b, S(p) => match b { Z => zig(p, Z(b)), S(q) => zig(S(a), q) } } }\n",

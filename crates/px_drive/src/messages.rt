@@ -68,12 +68,7 @@ fn write_source<E: Sink>(fault: SourceFault, err: &mut E) -> Result<(), WriteFau
 }
 
 /// Writes these bytes, a rule, the place that breaks it, and a line feed.
-fn write_rule<E: Sink>(
-    before: &[u8],
-    rule: &str,
-    at: u32,
-    err: &mut E,
-) -> Result<(), WriteFault>
+fn write_rule<E: Sink>(before: &[u8], rule: &str, at: u32, err: &mut E) -> Result<(), WriteFault>
     ensures writes { Writes (before.now ++ (rule.now ++ (codes " at " ++ (decimal at ++ codes "\n")))) (sink_seen E.Sink err.old err.new) result }
     ensures later { E.faults err.old ≤ E.faults err.new }
 {

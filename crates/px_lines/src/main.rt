@@ -7,14 +7,12 @@
 mod reprint;
 mod stop;
 
-use reprint::reprint;
-use stop::Stop;
-
 use px_base::limits::{DERIVATION_BYTES, PROGRAM_BYTES};
 use px_world::{HostFiles, HostOut, read_all};
-use std::env;
-use std::io;
+use reprint::reprint;
 use std::process::ExitCode;
+use std::{env, io};
+use stop::Stop;
 
 fn main(rt: HostRuntime) -> ExitCode {
     let Ok(words) = words_after_name(&rt) else {
