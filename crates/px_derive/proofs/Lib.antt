@@ -14,3 +14,5 @@ pub mod TypeSteps
 pub mod TermSteps
 pub mod LineAnswers
 pub mod Printed
+pub mod NoFeeds
+pub mod OneText

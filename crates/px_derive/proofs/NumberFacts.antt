@@ -32,7 +32,7 @@ digit_from b (low, high) = grind (arith, nat_tests)
 are_digits : IsDigitsTest AreDigits
 are_digits = record { empty = tt; parts = λ c cs h. (digit_range c h.0, h.1); more = λ c cs range h. (digit_from c range, h) }
 
-own : IsNumeralModel AreDigits (digits_value 10)
+pub own : IsNumeralModel AreDigits (digits_value 10)
 own = numerals_by_value AreDigits are_digits
 
 numeral_some : (ds : List ℕ) → is_numeral ds ≡ true → 0 < length ds

@@ -23,7 +23,7 @@ mod tests;
 mod trees;
 mod types;
 
-pub use laws::one_row;
+pub use laws::{no_line_feed, one_list, one_row};
 pub use line_end::LineEnd;
 pub use lines::{Piece, next_line};
 pub use reading::read_line;
