@@ -34,7 +34,7 @@ use Rattle.px_totality.proofs.Declared.{declared_is_had}
 use Rattle.px_totality.proofs.PropertiesHold.{implied_is_true, built_ins_have}
 
 -- what is implied by less is implied by more
-closure_weaker : (Less More : Prop → Type 0) → ((p : Prop) → Less p → More p) → {p : Prop} → Closure Less p → Closure More p
+pub closure_weaker : (Less More : Prop → Type 0) → ((p : Prop) → Less p → More p) → {p : Prop} → Closure Less p → Closure More p
 closure_weaker Less More weaker (implied.known {p = p} k) = implied.known (weaker p k)
 closure_weaker Less More weaker (implied.sel_gives_idem k) = implied.sel_gives_idem (closure_weaker Less More weaker k)
 closure_weaker Less More weaker (implied.conn_gives_refl k) = implied.conn_gives_refl (closure_weaker Less More weaker k)

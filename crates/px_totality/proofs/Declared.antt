@@ -109,7 +109,8 @@ module _ (Q : Program) (ts us : List Ty) (rho : List Value) where
           nothing_meant ts [] parts.gs (subst (λ (given : List Fun). FunsMean ts [] given parts.gs) one.given parts.funs_mean) in
           let gives : Gives Q f [] parts.vs v parts.b = subst₂ (λ (g : Fun) (gs : List Fun). Gives Q g gs parts.vs v parts.b) same no_functions parts.gives in
           let none_given : FunsMean us [] t.given [] = subst (λ (given : List Fun). FunsMean us [] given []) (sym other.given) tt in
-          of_layer_means Q us [] rho (term.Call t.function t.given others) (Term-F.Call t.function t.given others) v c (term.outs-Call t.function t.given others)
+          of_layer_means Q us [] rho (term.Call t.function t.given others) (Term-F.Call t.function t.given others) v c
+          (term.outs-Call t.function t.given others)
           (call (all.to parts.vs parts.a parts.all) other.function none_given gives parts.total);
     }
 
@@ -381,7 +382,8 @@ module _ (Q : Program) (typed : IsTyped Q) (n : ℕ) (D : definition.Def) (found
   alone : (p : Prop) → IsTrueOfAll Q ts [] (clause_for s p D.tparams D.funs) → IsTrueOfAll Q [] [] (clause_for t p 0 [])
   alone p is_true = record {
     at = λ rho are premises.
-        let there : AreIn Q (tys_instance ts (clause_for s p D.tparams D.funs).vars) rho = subst (λ (types : List Ty). AreIn Q types rho) (variables_at p) are in
+        let there : AreIn Q (tys_instance ts (clause_for s p D.tparams D.funs).vars) rho =
+        subst (λ (types : List Ty). AreIn Q types rho) (variables_at p) are in
         let before : AreTrueAt Q ts [] rho (says s p).premises = said_premises Q [] ts rho t s f itself_stands own_stands (sym as_long) p premises in
         said_alternatives Q ts [] rho s t f own_stands itself_stands as_long p (is_true.at rho there before);
   }

@@ -43,7 +43,7 @@ extends_itself P founded = record {
   founded = founded;
 }
 
-extends_further : (P Q R : Program) → IsExtension R Q → IsExtension Q P → IsExtension R P
+pub extends_further : (P Q R : Program) → IsExtension R Q → IsExtension Q P → IsExtension R P
 extends_further P Q R late early = record {
   datatypes = begins_further P.datatypes Q.datatypes R.datatypes late.datatypes early.datatypes;
   defs = begins_further P.defs Q.defs R.defs late.defs early.defs;

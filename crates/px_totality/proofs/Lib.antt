@@ -10,6 +10,7 @@ pub mod Examples
 pub mod Extensions
 pub mod Falling
 pub mod Instances
+pub mod Kept
 pub mod Properties
 pub mod PropertiesHold
 pub mod Sizes

@@ -6,6 +6,7 @@ use Rattle.px_terms.specs.declared.types.FnType.{FnType}
 use Rattle.px_terms.specs.declared.types.Fun.{Fun}
 use Rattle.px_terms.specs.declared.term.Term.{Term}
 use Rattle.px_terms.specs.declared.term.Value.{Value}
+use Rattle.px_terms.specs.declared.clause.Clause.{Clause}
 use Rattle.px_terms.specs.declared.program.Def as definition
 use Rattle.px_terms.specs.declared.program.Program.{Program}
 use Rattle.px_terms.specs.declared.sequent.Context.{Context}
@@ -13,7 +14,8 @@ use Rattle.px_terms.specs.Types.{ty_instance, tys_instance}
 use Rattle.px_terms.specs.Values.{IsIn, AreIn}
 use Rattle.px_terms.specs.Meaning.{Gives, Means}
 use Rattle.px_terms.specs.Typing.{Place, IsType, AreTypes, HasType}
-use Rattle.px_terms.specs.Extending.{IsWellFounded, IsExtension, FitsType, FitTypes, FitValues}
+use Rattle.px_terms.specs.Obligations.{IsObligation}
+use Rattle.px_terms.specs.Extending.{IsWellFounded, IsExtension, FitsType, FitTypes, FitValues, HoldsInExtensions}
 
 -- Of what is said of values with their counts there is exactly one, and the value is in the type.
 pub record ExactlyOne (Q : Program) (T : Ty) (IsGiven : Value → ℕ → Type 0) : Type 0 where
@@ -53,3 +55,10 @@ EachTermHasValue =
 pub record ExtensionsCompose : Type 0 where
   pub itself : (P : Program) → IsWellFounded P → IsExtension P P
   pub further : (P Q R : Program) → IsExtension R Q → IsExtension Q P → IsExtension R P
+
+-- What is typed in a program, each obligation with its clause, and what holds, stays so in an extension.
+pub record ExtensionsKeep : Type 0 where
+  pub typing : (P Q : Program) → IsExtension Q P → (place : Place) (context : Context) (t : Term) (T : Ty) → HasType P place context t T →
+      HasType Q place context t T
+  pub obligation : (P Q : Program) → IsExtension Q P → (n : ℕ) (clause : Clause) → IsObligation P n clause → IsObligation Q n clause
+  pub holding : (P Q : Program) → IsExtension Q P → (clause : Clause) → HoldsInExtensions P clause → HoldsInExtensions Q clause

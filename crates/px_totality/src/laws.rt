@@ -1,4 +1,4 @@
-ghost use Rattle.px_totality.specs.Laws.{EachCallHasValue, EachFunctionHasValue, EachTermHasValue, ExtensionsCompose};
+ghost use Rattle.px_totality.specs.Laws.{EachCallHasValue, EachFunctionHasValue, EachTermHasValue, ExtensionsCompose, ExtensionsKeep};
 
 /// In every program that is typed and descends, a call of a definition at ground types, on functions that fit
 /// and values of its parameters' types, has exactly one value and one number of calls, and the value is in the
@@ -22,4 +22,10 @@ pub fn each_term_has_value()
 /// A program that is typed and descends is an extension of itself, and an extension of an extension is one.
 pub fn extensions_compose()
     ensures { ExtensionsCompose }
+{}
+
+/// What is typed in a program is typed in its extensions, an obligation is one of them with the same clause, and
+/// what holds of a program holds of them.
+pub fn extensions_keep()
+    ensures { ExtensionsKeep }
 {}

@@ -15,6 +15,7 @@ pub use example_laws::{
 };
 pub use laws::{
     each_call_has_value, each_function_has_value, each_term_has_value, extensions_compose,
+    extensions_keep,
 };
 pub use property_laws::{
     arguments_fit, built_ins_have, built_ins_lack, declared_is_had, implied_is_true,
