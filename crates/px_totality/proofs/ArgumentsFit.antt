@@ -1,11 +1,12 @@
 -- Functions that are typed as arguments stand for functions that fit, with the properties that are assumed, where each earlier obligation holds.
-use Rattle.std.proofs.Common.{◌≡◌, ℕ, zero, suc, List, [], ◌∷◌, map, length, Option, Some, slice_get, refl, sym, ap, ◌∙◌, subst, subst₂}
+use Rattle.std.proofs.Common.{◌≡◌, ℕ, zero, suc, List, [], ◌∷◌, map, length, Option, Some, slice_get, refl, sym, ap, ◌∙◌, subst, subst₂, true≢false}
 use Rattle.std.specs.Option.{IsSomeAnd}
 use Rattle.std.proofs.lemmas.List.{length-map}
 use Rattle.px_terms.specs.Head.TheVariants.{Def}
 use Rattle.px_terms.specs.Prop.{Prop}
 use Rattle.px_terms.specs.PropSet.{PropSet}
-use Rattle.px_terms.specs.PropSets.{HasProp}
+use Rattle.px_terms.specs.Prop.TheVariants.{Comm, Assoc, Idem, Sel, Refl, Irrefl, Sym, Antisym, Asym, Trans, Conn}
+use Rattle.px_terms.specs.PropSets.{HasProp, set_of}
 use Rattle.px_terms.specs.declared.types.Ty.{Ty}
 use Rattle.px_terms.specs.declared.types.Ty.TheVariants as type
 use Rattle.px_terms.specs.declared.types.FnType.{FnType}
@@ -27,7 +28,7 @@ use Rattle.px_terms.specs.Implied.{Closure}
 use Rattle.px_terms.specs.Implied as implied
 use Rattle.px_terms.specs.Extending.{IsWellFounded, FitsFully, FunctionsFit, HasInProgram, HoldsInProgram}
 use Rattle.px_terms.specs.Extending as extending
-use Rattle.px_totality.specs.PropertyLaws.{at_most, equal, EarlierHold, PassedFit, ArgumentsFit}
+use Rattle.px_totality.specs.PropertyLaws.{at_most, equal, EarlierHold, PassedFit, ArgumentsFit, AtMostFits}
 use Rattle.px_totality.proofs.Instances.{nothing_is_some, one_item, written_types, instances_are_types, instances_twice, instance_twice}
 use Rattle.px_totality.proofs.Calls.{nothing_mapped}
 use Rattle.px_totality.proofs.Declared.{declared_is_had}
@@ -158,3 +159,25 @@ module _ (Q : Program) (founded : IsWellFounded Q) (place : Place) (context : Co
 pub arguments_fit : ArgumentsFit
 arguments_fit Q founded place context earlier types long ground funs fit fs takes arguments =
     all_fit Q founded place context earlier types long ground funs fit arguments
+
+-- the properties of an order, of `wle`
+order_has : (Q : Program) → IsWellFounded Q → (p : Prop) → HasProp (set_of (Refl ∷ Trans ∷ [])) p → HasInProgram Q at_most p
+order_has Q founded Comm has = absurd (true≢false (sym has))
+order_has Q founded Assoc has = absurd (true≢false (sym has))
+order_has Q founded Idem has = absurd (true≢false (sym has))
+order_has Q founded Sel has = absurd (true≢false (sym has))
+order_has Q founded Refl has = built_ins_have.of_at_most Q founded Refl implied.refl
+order_has Q founded Irrefl has = absurd (true≢false (sym has))
+order_has Q founded Sym has = absurd (true≢false (sym has))
+order_has Q founded Antisym has = absurd (true≢false (sym has))
+order_has Q founded Asym has = absurd (true≢false (sym has))
+order_has Q founded Trans has = built_ins_have.of_at_most Q founded Trans implied.trans
+order_has Q founded Conn has = absurd (true≢false (sym has))
+
+pub at_most_fits : AtMostFits
+at_most_fits Q founded =
+    let word : ty_instance [] type.Word ≡ type.Word = ty_instance-Word [] in
+    let words : tys_instance [] (type.Word ∷ type.Word ∷ []) ≡ type.Word ∷ type.Word ∷ [] = λ i. word i ∷ word i ∷ [] in
+    let is_function : IsFunction Q (functions_alone 0 []) at_most [] (tys_instance [] (type.Word ∷ type.Word ∷ [])) (ty_instance [] bool_type) =
+    subst₂ (IsFunction Q (functions_alone 0 []) at_most []) (sym words) (sym (ty_instance-Con [] 0 [])) (typing.at_most refl) in
+    extending.more (record { fits = record { function = is_function }; has = order_has Q founded }) extending.none

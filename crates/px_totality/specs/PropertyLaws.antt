@@ -1,9 +1,11 @@
 -- What is said of properties is true: those of the built-ins, and what properties imply.
-use Rattle.std.specs.Prelude.{◌≡◌, ℕ, List, [], length, Some, slice_get}
+use Rattle.std.specs.Prelude.{◌≡◌, ℕ, List, [], ◌∷◌, length, Some, slice_get}
 use Rattle.px_terms.specs.Head.TheVariants as head
 use Rattle.px_terms.specs.Prop.{Prop}
-use Rattle.px_terms.specs.Prop.TheVariants.{Comm, Idem}
+use Rattle.px_terms.specs.Prop.TheVariants.{Comm, Idem, Refl, Trans}
+use Rattle.px_terms.specs.PropSets.{set_of}
 use Rattle.px_terms.specs.declared.types.Ty.{Ty}
+use Rattle.px_terms.specs.declared.types.Ty.TheVariants as type
 use Rattle.px_terms.specs.declared.types.FnType.{FnType}
 use Rattle.px_terms.specs.declared.types.Fun.{Fun}
 use Rattle.px_terms.specs.declared.clause.Clause.{Clause}
@@ -11,6 +13,7 @@ use Rattle.px_terms.specs.declared.program.Def as definition
 use Rattle.px_terms.specs.declared.program.Program.{Program}
 use Rattle.px_terms.specs.Implied.{Closure, HasAtMost, HasEqual}
 use Rattle.px_terms.specs.declared.sequent.Context.{Context}
+use Rattle.px_terms.specs.Programs.{bool_type}
 use Rattle.px_terms.specs.Meaning.{FunsMean}
 use Rattle.px_terms.specs.Typing.{Place, AreTypes, IsEarlier, AreArguments}
 use Rattle.px_terms.specs.Clauses.{IsClauseOf}
@@ -38,6 +41,14 @@ pub record BuiltInsHave : Type 0 where
 pub record BuiltInsLack : Type 0 where
   pub broken : (Q : Program) → IsWellFounded Q → HasInProgram Q at_most Comm → ⊥
   pub unfit : (Q : Program) → IsWellFounded Q → HasInProgram Q at_most Idem → ⊥
+
+-- (Word, Word) -> Bool, reflexive and transitive
+abbrev pub order_type : FnType
+order_type = record { params = type.Word ∷ type.Word ∷ []; result = bool_type; props = set_of (Refl ∷ Trans ∷ []) }
+
+-- where a reflexive and transitive function of two words is wanted, `wle` fits
+abbrev pub AtMostFits : Type 0
+AtMostFits = (Q : Program) → IsWellFounded Q → FunctionsFit Q [] (order_type ∷ []) (at_most ∷ [])
 
 -- a definition without function parameters has, at all ground types, each property whose clause holds in the program
 abbrev pub DeclaredIsHad : Type 0

@@ -18,5 +18,5 @@ pub use laws::{
     extensions_keep,
 };
 pub use property_laws::{
-    arguments_fit, built_ins_have, built_ins_lack, declared_is_had, implied_is_true,
+    arguments_fit, at_most_fits, built_ins_have, built_ins_lack, declared_is_had, implied_is_true,
 };

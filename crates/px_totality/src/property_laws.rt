@@ -1,4 +1,4 @@
-ghost use Rattle.px_totality.specs.PropertyLaws.{ArgumentsFit, BuiltInsHave, BuiltInsLack, DeclaredIsHad, ImpliedIsTrue};
+ghost use Rattle.px_totality.specs.PropertyLaws.{ArgumentsFit, AtMostFits, BuiltInsHave, BuiltInsLack, DeclaredIsHad, ImpliedIsTrue};
 
 /// In every program that is typed and descends, what properties that a function has imply, it has: the closure
 /// adds nothing that is not true.
@@ -14,6 +14,11 @@ pub fn built_ins_have()
 /// In no such program is `wle` commutative, since its values are not, or idempotent, since that does not fit its type.
 pub fn built_ins_lack()
     ensures { BuiltInsLack }
+{}
+
+/// In every such program `wle` fits where a reflexive and transitive function of two words is wanted.
+pub fn at_most_fits()
+    ensures { AtMostFits }
 {}
 
 /// In every such program a definition without function parameters has, at all ground types, each property whose
