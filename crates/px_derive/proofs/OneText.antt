@@ -46,8 +46,8 @@ one_list names has [] (s ∷ ss) one other e = absurd (no_lines (line_of names s
 one_list names has (r ∷ rs) [] one other e = absurd (no_lines (line_of names r) (lines_of names rs) (sym e ∙ append_assoc (line_of names r) (10 ∷ []) (lines_of names rs)))
 one_list names has (r ∷ rs) (s ∷ ss) one other e =
     let c : Cut (line_of names r) (line_of names s) (lines_of names rs) (lines_of names ss) =
-        cut (line_of names r) (line_of names s) (lines_of names rs) (lines_of names ss) (row_free names has r one.0) (row_free names has s other.0)
-          (sym (append_assoc (line_of names r) (10 ∷ []) (lines_of names rs)) ∙ e ∙ append_assoc (line_of names s) (10 ∷ []) (lines_of names ss)) in
+    cut (line_of names r) (line_of names s) (lines_of names rs) (lines_of names ss) (row_free names has r one.0) (row_free names has s other.0)
+    (sym (append_assoc (line_of names r) (10 ∷ []) (lines_of names rs)) ∙ e ∙ append_assoc (line_of names s) (10 ∷ []) (lines_of names ss)) in
     let first : r ≡ s = one_row names has r s one.0 other.0 c.line in
     let others : rs ≡ ss = one_list names has rs ss one.1 other.1 c.rest in
     cc

@@ -9,11 +9,9 @@ pub fn one_row()
 /// A row's line has no line feed.
 pub fn no_line_feed()
     ensures { NoLineFeed }
-{
-}
+{}
 
 /// A text is at most one list of rows.
 pub fn one_list()
     ensures { OneList }
-{
-}
+{}
