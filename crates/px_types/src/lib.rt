@@ -9,6 +9,7 @@ mod ends;
 mod formed;
 mod knowledge;
 mod laws;
+mod scope;
 #[cfg(test)]
 mod tests;
 mod typed;
