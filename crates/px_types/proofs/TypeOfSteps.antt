@@ -374,11 +374,17 @@ module _ (f g : Ty → Ty) (tys others : List Ty) where
   one_more : (h : Ty → Ty) (xs : List Ty) (i : ℕ) (T : Ty) → i < length xs → T ≡ get_or xs i T → take (i + 1) (map h xs) ≡ take i (map h xs) ++ h T ∷ []
   one_more h xs i T below is = take_more (map h xs) i (h T) (map_below h xs i below) ∙ ap (λ U. take i (map h xs) ++ U ∷ []) (sym (item_map h xs i T below is))
 
-  pub same_next : (i : ℕ) (T U : Ty) (b : Bool) → i < length tys → i < length others → T ≡ get_or tys i T → U ≡ get_or others i U → (IsTrue b ↔ (f T ≡ g U)) → b ≡ true → take i (map f tys) ≡ take i (map g others) → take (i + 1) (map f tys) ≡ take (i + 1) (map g others)
+  pub same_next : (i : ℕ) (T U : Ty) (b : Bool) → i < length tys → i < length others → T ≡ get_or tys i T → U ≡ get_or others i U → (IsTrue b ↔ (f T ≡ g U)) →
+      b ≡ true → take i (map f tys) ≡ take i (map g others) → take (i + 1) (map f tys) ≡ take (i + 1) (map g others)
   same_next i T U b h k is js tells e before = one_more f tys i T h is ∙ (λ j. before j ++ tells.0 e j ∷ []) ∙ sym (one_more g others i U k js)
 
-  pub same_fails : (i : ℕ) (T U : Ty) (b : Bool) → i < length tys → i < length others → T ≡ get_or tys i T → U ≡ get_or others i U → (IsTrue b ↔ (f T ≡ g U)) → b ≡ false → IsTrue false ↔ (map f tys ≡ map g others)
-  same_fails i T U b h k is js tells e = (λ t. absurd (false≢true t), λ all. absurd (false≢true (sym e ∙ tells.1 (item_map f tys i T h is ∙ ap (λ (xs : List Ty). get_or xs i (f T)) all ∙ get_or-map g others i U (f T) k ∙ ap g (sym js)))))
+  pub same_fails : (i : ℕ) (T U : Ty) (b : Bool) → i < length tys → i < length others → T ≡ get_or tys i T → U ≡ get_or others i U →
+      (IsTrue b ↔ (f T ≡ g U)) → b ≡ false → IsTrue false ↔ (map f tys ≡ map g others)
+  same_fails i T U b h k is js tells e = (
+    λ t. absurd (false≢true t),
+    λ all. absurd
+        (false≢true (sym e ∙ tells.1 (item_map f tys i T h is ∙ ap (λ (xs : List Ty). get_or xs i (f T)) all ∙ get_or-map g others i U (f T) k ∙ ap g (sym js)))),
+  )
 
   pub same_end : (i : ℕ) → length tys ≤ i → length others ≤ i → take i (map f tys) ≡ take i (map g others) → IsTrue true ↔ (map f tys ≡ map g others)
   same_end i h k before = (λ _. sym (take_all i (map f tys) (map_over f tys i h)) ∙ before ∙ take_all i (map g others) (map_over g others i k), λ _. refl)
@@ -388,7 +394,8 @@ module _ (f g : Ty → Ty) (tys others : List Ty) where
 
 -- Whether what is called has a wanted type, test by test.
 module _ (own : Signature) (wanted : FnType) where
-  pub alike_takes : (takes : List FnType) (f : FnType → FnType) (b : Bool) → own.takes ≡ map f takes → (IsTrue b ↔ (takes ≡ [])) → b ≡ false → false ≡ is_alike own wanted
+  pub alike_takes : (takes : List FnType) (f : FnType → FnType) (b : Bool) → own.takes ≡ map f takes → (IsTrue b ↔ (takes ≡ [])) → b ≡ false →
+      false ≡ is_alike own wanted
   alike_takes others f b is tells e =
       alike_is own wanted false (λ t. absurd (false≢true t), λ k. absurd (false≢true (sym e ∙ tells.1 (none_of others (sym is ∙ k.0)))))
     where
@@ -399,8 +406,10 @@ module _ (own : Signature) (wanted : FnType) where
   pub alike_params : (b : Bool) → (IsTrue b ↔ (own.params ≡ wanted.params)) → b ≡ false → false ≡ is_alike own wanted
   alike_params b tells e = alike_is own wanted false (λ t. absurd (false≢true t), λ k. absurd (false≢true (sym e ∙ tells.1 k.1.0)))
 
-  pub alike_result : (takes : List FnType) (f : FnType → FnType) (a b c : Bool) → own.takes ≡ map f takes → (IsTrue a ↔ (takes ≡ [])) → a ≡ true → (IsTrue b ↔ (own.params ≡ wanted.params)) → b ≡ true → (IsTrue c ↔ (own.result ≡ wanted.result)) → c ≡ is_alike own wanted
-  alike_result others f a b c is none e params d result = alike_is own wanted c (λ t. (is ∙ ap (map f) (none.0 e), (params.0 d, result.0 t)), λ k. result.1 k.1.1)
+  pub alike_result : (takes : List FnType) (f : FnType → FnType) (a b c : Bool) → own.takes ≡ map f takes → (IsTrue a ↔ (takes ≡ [])) → a ≡ true →
+      (IsTrue b ↔ (own.params ≡ wanted.params)) → b ≡ true → (IsTrue c ↔ (own.result ≡ wanted.result)) → c ≡ is_alike own wanted
+  alike_result others f a b c is none e params d result =
+      alike_is own wanted c (λ t. (is ∙ ap (map f) (none.0 e), (params.0 d, result.0 t)), λ k. result.1 k.1.1)
 
 -- a type stays as it is where no type is put in
 abbrev Stays : Ty → Type 0
@@ -423,15 +432,18 @@ stay [] = refl
 stay (T ∷ types) = λ i. stays T i ∷ stay types i
 
 -- a function variable is called at no types
-pub variable_is : (b : Comparison) (F : FnType) → b ≡ comparing → put_in b.types b.takes F.params F.result ≡ record { takes = []; params = F.params; result = F.result }
+pub variable_is : (b : Comparison) (F : FnType) → b ≡ comparing → put_in b.types b.takes F.params F.result ≡ record
+    { takes = []; params = F.params; result = F.result }
 variable_is b F e = rw e (λ i. record { takes = []; params = stay F.params i; result = stays F.result i })
 
 -- a test of two types is one of what they are
 pub tells_of : (r : Bool) (S T U V : Ty) → S ≡ U → T ≡ V → (IsTrue r ↔ (S ≡ T)) → (IsTrue r ↔ (U ≡ V))
 tells_of r S T U V left right tells = (λ e. sym left ∙ tells.0 e ∙ right, λ e. tells.1 (left ∙ e ∙ sym right))
 
-pub arguments_uneven_map : (g : FnType → FnType) (E : Env) (fs : List Fun) (others : List FnType) → (length fs ≡ length others → ⊥) → arguments_fit E fs (map g others) ≡ None
+pub arguments_uneven_map : (g : FnType → FnType) (E : Env) (fs : List Fun) (others : List FnType) → (length fs ≡ length others → ⊥) →
+    arguments_fit E fs (map g others) ≡ None
 arguments_uneven_map g E fs others h = arguments_uneven E fs (map g others) (λ e. h (e ∙ length-map others g))
 
-pub parts_uneven_map : (own : Term → Found) (bound : List Ty) (parts : List Term) (g : Ty → Ty) (types : List Ty) → (length parts ≡ length types → ⊥) → parts_have bound (map own parts) (map g types) ≡ None
+pub parts_uneven_map : (own : Term → Found) (bound : List Ty) (parts : List Term) (g : Ty → Ty) (types : List Ty) → (length parts ≡ length types → ⊥) →
+    parts_have bound (map own parts) (map g types) ≡ None
 parts_uneven_map own bound parts g types h = parts_uneven bound (map own parts) (map g types) (λ e. h (sym (length-map parts own) ∙ e ∙ length-map types g))

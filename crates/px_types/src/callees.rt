@@ -65,7 +65,11 @@ pub(crate) fn called_by<'t, 'p: 't>(scope: &Scope<'p>, fun: &'t Fun) -> Result<C
 
 /// What is called, at these types, which are as many as it takes. It takes no memory.
 #[tactic(auto, unfolding(crate::specs::Outcome::signature_of))]
-fn signature<'t, 'p: 't>(scope: &Scope<'p>, head: Head, types: &'t Items<Ty>) -> Result<Callee<'t>, NotTyped>
+fn signature<'t, 'p: 't>(
+    scope: &Scope<'p>,
+    head: Head,
+    types: &'t Items<Ty>,
+) -> Result<Callee<'t>, NotTyped>
     ensures { FindsCallee (signature_of (here scope.now) head types.now) result }
 {
     let comparison = scope.comparison;

@@ -100,30 +100,54 @@ have_types-loop-index-init t c = refl
 
 pub have_types-returns-then-terms-types : goal.have_types-returns-then-terms-types
 have_types-returns-then-terms-types t c =
-    parts_uneven_map (type_found (here c.args.scope.now)) (bound_of c.args.around.now) c.args.parts.now (ty_instance c.args.wanted.now.types.now) c.args.wanted.now.tys.now (rw (c.as_slice-terms.ensures, c.as_slice-types.ensures) at c.if-terms-types.true)
+    parts_uneven_map (type_found (here c.args.scope.now)) (bound_of c.args.around.now) c.args.parts.now (ty_instance c.args.wanted.now.types.now)
+    c.args.wanted.now.tys.now (rw (c.as_slice-terms.ensures, c.as_slice-types.ensures) at c.if-terms-types.true)
 
 pub have_types-returns-in_err-found : goal.have_types-returns-in_err-found
 have_types-returns-in_err-found t c =
     let below : c.loop-index.index < length c.as_slice-types.result.now = rw (← c.if-terms-types.false) c.loop-index-test.true in
     end_is _ c.from_residual.result c.in_err-found.field-0.0 c.from_residual.ensures.1
-    (have_fails (type_found (here c.args.scope.now)) (bound_of c.args.around.now) c.args.parts.now c.as_slice-terms.result.now (map (ty_instance c.args.wanted.now.types.now) c.args.wanted.now.tys.now) (map (ty_instance c.args.wanted.now.types.now) c.as_slice-types.result.now) c.as_slice-terms.ensures (ap (map (ty_instance c.args.wanted.now.types.now)) c.as_slice-types.ensures) c.loop-index.index c.index-terms-index.result (get_or (map (ty_instance c.args.wanted.now.types.now) c.as_slice-types.result.now) c.loop-index.index ty.Word) c.in_err-found.field-0.0 c.loop-index-test.true (map_below (ty_instance c.args.wanted.now.types.now) c.as_slice-types.result.now c.loop-index.index below) c.index-terms-index.is (same_item _ _ _ _ (map_below (ty_instance c.args.wanted.now.types.now) c.as_slice-types.result.now c.loop-index.index below)) c.in_err-found.ensures c.loop-index.invariant)
+    (have_fails (type_found (here c.args.scope.now)) (bound_of c.args.around.now) c.args.parts.now c.as_slice-terms.result.now
+    (map (ty_instance c.args.wanted.now.types.now) c.args.wanted.now.tys.now) (map (ty_instance c.args.wanted.now.types.now) c.as_slice-types.result.now)
+    c.as_slice-terms.ensures (ap (map (ty_instance c.args.wanted.now.types.now)) c.as_slice-types.ensures) c.loop-index.index c.index-terms-index.result
+    (get_or (map (ty_instance c.args.wanted.now.types.now) c.as_slice-types.result.now) c.loop-index.index ty.Word) c.in_err-found.field-0.0
+    c.loop-index-test.true (map_below (ty_instance c.args.wanted.now.types.now) c.as_slice-types.result.now c.loop-index.index below)
+    c.index-terms-index.is (same_item _ _ _ _ (map_below (ty_instance c.args.wanted.now.types.now) c.as_slice-types.result.now c.loop-index.index below))
+    c.in_err-found.ensures c.loop-index.invariant)
 
 pub have_types-returns-then-not-is_same : goal.have_types-returns-then-not-is_same
 have_types-returns-then-not-is_same t c =
     let below : c.loop-index.index < length c.as_slice-types.result.now = rw (← c.if-terms-types.false) c.loop-index-test.true in
     let made = c.in_ok-made.ensures ∙ ap (λ (types : List Ty). ty_instance types c.index-types-index.result) c.as_slice.ensures in
-    have_other (type_found (here c.args.scope.now)) (bound_of c.args.around.now) c.args.parts.now c.as_slice-terms.result.now (map (ty_instance c.args.wanted.now.types.now) c.args.wanted.now.tys.now) (map (ty_instance c.args.wanted.now.types.now) c.as_slice-types.result.now) c.as_slice-terms.ensures (ap (map (ty_instance c.args.wanted.now.types.now)) c.as_slice-types.ensures) c.loop-index.index c.index-terms-index.result (ty_instance c.args.wanted.now.types.now c.index-types-index.result) c.in_ok-found.found c.loop-index-test.true (map_below (ty_instance c.args.wanted.now.types.now) c.as_slice-types.result.now c.loop-index.index below) c.index-terms-index.is (item_map (ty_instance c.args.wanted.now.types.now) c.as_slice-types.result.now c.loop-index.index c.index-types-index.result below c.index-types-index.is) c.in_ok-found.ensures (ap (same c.in_ok-found.found) (sym made) ∙ sym c.is_same.ensures ∙ c.if-not-is_same.true) c.loop-index.invariant
+    have_other (type_found (here c.args.scope.now)) (bound_of c.args.around.now) c.args.parts.now c.as_slice-terms.result.now
+    (map (ty_instance c.args.wanted.now.types.now) c.args.wanted.now.tys.now) (map (ty_instance c.args.wanted.now.types.now) c.as_slice-types.result.now)
+    c.as_slice-terms.ensures (ap (map (ty_instance c.args.wanted.now.types.now)) c.as_slice-types.ensures) c.loop-index.index c.index-terms-index.result
+    (ty_instance c.args.wanted.now.types.now c.index-types-index.result) c.in_ok-found.found c.loop-index-test.true
+    (map_below (ty_instance c.args.wanted.now.types.now) c.as_slice-types.result.now c.loop-index.index below) c.index-terms-index.is
+    (item_map (ty_instance c.args.wanted.now.types.now) c.as_slice-types.result.now c.loop-index.index c.index-types-index.result below
+    c.index-types-index.is) c.in_ok-found.ensures (ap (same c.in_ok-found.found) (sym made) ∙ sym c.is_same.ensures ∙ c.if-not-is_same.true)
+    c.loop-index.invariant
 
 pub have_types-loop-index-preserved : goal.have_types-loop-index-preserved
 have_types-loop-index-preserved t c =
     let below : c.loop-index.index < length c.as_slice-types.result.now = rw (← c.if-terms-types.false) c.loop-index-test.true in
     let made = c.in_ok-made.ensures ∙ ap (λ (types : List Ty). ty_instance types c.index-types-index.result) c.as_slice.ensures in
-    have_next (type_found (here c.args.scope.now)) (bound_of c.args.around.now) c.args.parts.now c.as_slice-terms.result.now (map (ty_instance c.args.wanted.now.types.now) c.args.wanted.now.tys.now) (map (ty_instance c.args.wanted.now.types.now) c.as_slice-types.result.now) c.as_slice-terms.ensures (ap (map (ty_instance c.args.wanted.now.types.now)) c.as_slice-types.ensures) c.loop-index.index c.index-terms-index.result (ty_instance c.args.wanted.now.types.now c.index-types-index.result) c.in_ok-found.found c.loop-index-test.true (map_below (ty_instance c.args.wanted.now.types.now) c.as_slice-types.result.now c.loop-index.index below) c.index-terms-index.is (item_map (ty_instance c.args.wanted.now.types.now) c.as_slice-types.result.now c.loop-index.index c.index-types-index.result below c.index-types-index.is) c.in_ok-found.ensures (ap (same c.in_ok-found.found) (sym made) ∙ sym c.is_same.ensures ∙ c.if-not-is_same.false) c.loop-index.invariant
+    have_next (type_found (here c.args.scope.now)) (bound_of c.args.around.now) c.args.parts.now c.as_slice-terms.result.now
+    (map (ty_instance c.args.wanted.now.types.now) c.args.wanted.now.tys.now) (map (ty_instance c.args.wanted.now.types.now) c.as_slice-types.result.now)
+    c.as_slice-terms.ensures (ap (map (ty_instance c.args.wanted.now.types.now)) c.as_slice-types.ensures) c.loop-index.index c.index-terms-index.result
+    (ty_instance c.args.wanted.now.types.now c.index-types-index.result) c.in_ok-found.found c.loop-index-test.true
+    (map_below (ty_instance c.args.wanted.now.types.now) c.as_slice-types.result.now c.loop-index.index below) c.index-terms-index.is
+    (item_map (ty_instance c.args.wanted.now.types.now) c.as_slice-types.result.now c.loop-index.index c.index-types-index.result below
+    c.index-types-index.is) c.in_ok-found.ensures (ap (same c.in_ok-found.found) (sym made) ∙ sym c.is_same.ensures ∙ c.if-not-is_same.false)
+    c.loop-index.invariant
 
 pub have_types-returns : goal.have_types-returns
 have_types-returns t c =
     let over : length c.as_slice-types.result.now ≤ c.loop-index.index = rw (← c.if-terms-types.false) c.loop-index-test.false in
-    have_end (type_found (here c.args.scope.now)) (bound_of c.args.around.now) c.args.parts.now c.as_slice-terms.result.now (map (ty_instance c.args.wanted.now.types.now) c.args.wanted.now.tys.now) (map (ty_instance c.args.wanted.now.types.now) c.as_slice-types.result.now) c.as_slice-terms.ensures (ap (map (ty_instance c.args.wanted.now.types.now)) c.as_slice-types.ensures) c.loop-index.index c.loop-index-test.false (map_over (ty_instance c.args.wanted.now.types.now) c.as_slice-types.result.now c.loop-index.index over) c.loop-index.invariant
+    have_end (type_found (here c.args.scope.now)) (bound_of c.args.around.now) c.args.parts.now c.as_slice-terms.result.now
+    (map (ty_instance c.args.wanted.now.types.now) c.args.wanted.now.tys.now) (map (ty_instance c.args.wanted.now.types.now) c.as_slice-types.result.now)
+    c.as_slice-terms.ensures (ap (map (ty_instance c.args.wanted.now.types.now)) c.as_slice-types.ensures) c.loop-index.index c.loop-index-test.false
+    (map_over (ty_instance c.args.wanted.now.types.now) c.as_slice-types.result.now c.loop-index.index over) c.loop-index.invariant
 
 pub arms_type-loop-index-init : goal.arms_type-loop-index-init
 arms_type-loop-index-init t c = refl
