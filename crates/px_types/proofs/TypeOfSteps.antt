@@ -1,5 +1,6 @@
 -- The type of a term, step by step as the code finds it.
-use Rattle.std.proofs.Common.{◌≡◌, ◌↔◌, ℕ, zero, suc, ◌+◌, ◌<◌, ◌≤◌, ◌^◌, Bool, true, false, ◌&&◌, IsTrue, List, [], ◌∷◌, ◌++◌, length, map, reverse, get_or, take, drop, Option, Some, None, Result, Ok, Err, refl, sym, ◌∙◌, ap, subst, Decides, arith, drop-cons, add-one}
+use Rattle.std.proofs.Common.{◌≡◌, ◌↔◌, ℕ, zero, suc, ◌+◌, ◌<◌, ◌≤◌, ◌^◌, Bool, true, false, ◌&&◌, IsTrue, List, [], ◌∷◌, ◌++◌, length, map, reverse, get_or}
+use Rattle.std.proofs.Common.{take, drop, Option, Some, None, Result, Ok, Err, refl, sym, ◌∙◌, ap, subst, Decides, arith, drop-cons, add-one}
 use Rattle.std.specs.Prelude.{slice_get, ◌==◌, ◌-◌, nat_lt}
 use Rattle.std.specs.Option.{option_map}
 use Rattle.std.specs.Result.{IsErrAnd}
@@ -26,7 +27,9 @@ use Rattle.px_types.specs.declared.typings.NotTyped.{NotTyped}
 use Rattle.px_types.specs.declared.typings.NotTyped.TheVariants.{IllTyped, NoMemory}
 use Rattle.px_types.specs.Faults.{Env}
 use Rattle.px_types.specs.Outcome.{same, agrees, Signature, is_alike, type_of_variable}
-use Rattle.px_types.specs.TypeOf.{EndsWithout, Finds, Found, followed, when, takes, is_type_step, is_type, are_types, callee_found, argument_fits, arguments_fit, parts_have, arms_have, literal_type, fields_found, con_type, call_type, constructors_found, match_type, type_found}
+use Rattle.px_types.specs.TypeOf.{EndsWithout, Finds, Found, followed, when, takes, is_type_step, is_type, are_types, callee_found, argument_fits}
+use Rattle.px_types.specs.TypeOf.{arguments_fit, parts_have, arms_have, literal_type, fields_found, con_type, call_type, constructors_found, match_type}
+use Rattle.px_types.specs.TypeOf.{type_found}
 use Rattle.px_types.proofs.Sameness.{ArgsHold, ty_induction, decides_same}
 use Rattle.px_types.proofs.Functions.{IsAlike, decides_alike}
 use Rattle.px_types.proofs.TypeOfExact.{then_follows, true_when}
@@ -383,7 +386,8 @@ module _ (f g : Ty → Ty) (tys others : List Ty) where
   same_fails i T U b h k is js tells e = (
     λ t. absurd (false≢true t),
     λ all. absurd
-        (false≢true (sym e ∙ tells.1 (item_map f tys i T h is ∙ ap (λ (xs : List Ty). get_or xs i (f T)) all ∙ get_or-map g others i U (f T) k ∙ ap g (sym js)))),
+        (false≢true (sym e ∙ tells.1 (item_map f tys i T h is ∙ ap (λ (xs : List Ty). get_or xs i (f T)) all ∙ get_or-map g others i U (f T) k
+        ∙ ap g (sym js)))),
   )
 
   pub same_end : (i : ℕ) → length tys ≤ i → length others ≤ i → take i (map f tys) ≡ take i (map g others) → IsTrue true ↔ (map f tys ≡ map g others)

@@ -5,7 +5,9 @@ use Rattle.px_terms.specs.Types.{ty_instance}
 use Rattle.px_types.specs.Bounds.{here, bound_of}
 use Rattle.px_types.specs.Outcome.{same}
 use Rattle.px_types.specs.TypeOf.{type_found}
-use Rattle.px_types.proofs.TypeOfSteps.{stage, end_is, passed_on, finds_at, item_map, map_below, map_over, parts_uneven_map, have_next, have_fails, have_other, have_end, arms_uneven_own, arms_next, arms_fail, arms_differ, arms_end, free_found, bound_found, literal_found, con_found, call_found, match_found}
+use Rattle.px_types.proofs.TypeOfSteps.{stage, end_is, passed_on, finds_at, item_map, map_below, map_over, parts_uneven_map, have_next, have_fails}
+use Rattle.px_types.proofs.TypeOfSteps.{have_other, have_end, arms_uneven_own, arms_next, arms_fail, arms_differ, arms_end, free_found, bound_found}
+use Rattle.px_types.proofs.TypeOfSteps.{literal_found, con_found, call_found, match_found}
 use Rattle.px_types.proofs.TypeOfKnown.{same_item}
 use Rattle.px_types.proofs.typings.+type_in.Goals as goal
 
