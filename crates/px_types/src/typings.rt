@@ -47,12 +47,14 @@ impl From<AllocError> for NotTyped {
 
 /// The type of a term where these variables are in scope, at no place of the text: no type that is met is too large, each
 /// definition may be called and passed, and of a definition all is known that the program declares of it. IllTyped exactly
-/// where the term has no type. It takes memory: of each part its type is made, and then the type that it should have, one at a time;
-/// its calls nest as deep as the term. It walks once over the program's obligations for each definition that stands where a
-/// function with properties is wanted.
+/// where the term has no type.
 ///
-/// Each datatype of the program needs a constructor, as each typed program has it: a match on a value of a datatype that has
-/// none has every type.
+/// It takes memory: the type of each part is made, and then the type that the part should have, one part at a time and none
+/// where their numbers differ. Its calls nest as deep as the term. For each definition that stands where a function with
+/// properties is wanted it walks once over the program's obligations.
+///
+/// Each datatype of the program needs a constructor, as those of a typed program have: a match on a value of a datatype that
+/// has none has every type.
 pub fn type_of(
     alloc: Global,
     program: &Program,
