@@ -1,15 +1,14 @@
 -- All written terms are found exactly as the rules say.
-use Rattle.std.proofs.Common.{◌≡◌, ℕ, List, [], ◌∷◌, length, Result, Ok, Err}
+use Rattle.std.proofs.Common.{◌≡◌, ℕ, List, [], ◌∷◌, length}
 use Rattle.px_base.specs.declared.raw.RawKind.{RawKind, out-RawKind}
 use Rattle.px_base.specs.declared.raw.RawKind.TheOpen.{RawKind-F}
 use Rattle.px_base.specs.declared.raw.RawTerm.{RawTerm}
 use Rattle.px_base.specs.declared.raw.RawArm.{RawArm}
 use Rattle.px_terms.specs.declared.types.Ty.{Ty}
-use Rattle.px_terms.specs.declared.term.Term.{Term}
 use Rattle.px_types.specs.declared.typed.Typed.{Typed}
-use Rattle.px_types.specs.Faults.{Broken, Env, IsTyped, Breaks}
+use Rattle.px_types.specs.Faults.{Env, IsTyped, Breaks}
 use Rattle.px_types.specs.Laws.{IsDeclaring}
-use Rattle.px_types.specs.Outcome.{term_found, parts_found}
+use Rattle.px_types.specs.Outcome.{parts_found}
 use Rattle.px_types.proofs.Exact.{Exact, exact_at, Every, AllTwo, OneOfTwo}
 use Rattle.px_types.proofs.TermShapes.{PartsHold, raw_term_induction, layer_found, term_found_is}
 use Rattle.px_types.proofs.TermsExact.{TermIsExact, IsPart, BreaksPart, exact_parts}

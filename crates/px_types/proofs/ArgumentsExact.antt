@@ -1,8 +1,6 @@
 -- Function arguments are found exactly as the rules say.
-use Rattle.std.proofs.Common.{◌≡◌, ℕ, Bool, true, false, List, [], ◌∷◌, length, Option, Some, None, Result, Ok, Err, refl, sym, ◌∙◌, ap, subst, Decides, arith}
+use Rattle.std.proofs.Common.{◌≡◌, ℕ, Bool, true, false, List, [], ◌∷◌, length, Some, refl, sym, ◌∙◌, ap, subst}
 use Rattle.std.specs.List.{All}
-use Rattle.std.specs.Option.{IsSomeAnd, option_map}
-use Rattle.std.proofs.lemmas.Bool.{false≢true}
 use Rattle.std.proofs.lemmas.List.Elements.{All-nil, All-cons, All-head, All-tail}
 use Rattle.px_base.specs.PropSets.{HasProp}
 use Rattle.px_base.specs.declared.head.Head.{Head}
@@ -19,9 +17,8 @@ use Rattle.px_types.specs.Written.{IsFun, AreFuns}
 use Rattle.px_types.specs.Written as written
 use Rattle.px_types.specs.Faults.{Broken, breaks, Env, Counts, counts_of, AreRight, BreaksTys, types_of_function, IsFunctionMet, HasArgumentCount, IsFunctionOf, BreaksArgument, IsRightArgument, BreaksArguments, AreRightArguments}
 use Rattle.px_types.specs.Faults as faults
-use Rattle.px_types.specs.Outcomes.{onward, needs, there, each_two}
 use Rattle.px_types.specs.Laws.{IsPlaced}
-use Rattle.px_types.specs.Outcome.{tys_found, Signature, signature_of, has_wanted, argument_found, arguments_found}
+use Rattle.px_types.specs.Outcome.{Signature, signature_of, has_wanted, argument_found, arguments_found}
 use Rattle.px_types.proofs.Exact.{Exact, Both, Either, first, later, exact_as, exact_ok, exact_needs, exact_there, exact_then, Every, AllTwo, OneOfTwo, exact_each_two}
 use Rattle.px_types.proofs.Exact as exact
 use Rattle.px_types.proofs.TypesExact.{exact_types, same_length, are_types}

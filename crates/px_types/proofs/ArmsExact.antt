@@ -1,31 +1,27 @@
 -- Each arm of a match is found exactly as the rules say, at the slots before it.
-use Rattle.std.proofs.Common.{◌≡◌, ◌⊎◌, inl, inr, ℕ, zero, suc, ◌+◌, ◌<◌, ◌≤◌, Bool, true, false, List, [], ◌∷◌, ◌++◌, length, map, reverse, Option, Some, None, Result, Ok, Err, refl, sym, ◌∙◌, ap, subst, Decides, arith}
+use Rattle.std.proofs.Common.{◌≡◌, ℕ, Bool, true, false, List, [], ◌∷◌, ◌++◌, length, reverse, Option, Some, None, refl, sym, ◌∙◌, ap, Decides, arith}
 use Rattle.std.specs.Prelude.{◌==◌, slice_get, slice_set, if◌then◌else◌}
 use Rattle.std.specs.List.{All}
-use Rattle.std.specs.Option.{IsSomeAnd, option_map, option_and_then}
+use Rattle.std.specs.Option.{IsSomeAnd, option_and_then}
 use Rattle.std.proofs.lemmas.Bool.{false≢true}
 use Rattle.std.proofs.lemmas.Bool.Decides.{Decides-eqb}
 use Rattle.std.proofs.lemmas.List.{length-map}
 use Rattle.std.proofs.lemmas.List.Elements.{All-nil, All-cons, All-head, All-tail}
-use Rattle.px_base.specs.declared.raw.RawKind.{RawKind, out-RawKind}
-use Rattle.px_base.specs.declared.raw.RawTerm.{RawTerm}
+use Rattle.px_base.specs.declared.raw.RawKind.{out-RawKind}
 use Rattle.px_base.specs.declared.raw.RawArm.{RawArm}
 use Rattle.px_terms.specs.declared.types.Ty.{Ty}
 use Rattle.px_terms.specs.declared.term.Term.{Term}
 use Rattle.px_terms.specs.declared.program.ConDef.{ConDef}
-use Rattle.px_terms.specs.declared.program.DataDef.{DataDef}
-use Rattle.px_terms.specs.declared.program.Program.{Program}
 use Rattle.px_terms.specs.Types.{ty_instance, tys_instance}
 use Rattle.px_terms.specs.Programs.{constructor_at}
 use Rattle.px_terms.specs.Typing.{IsMet}
 use Rattle.px_types.specs.declared.ends.TypeKind.TheVariants.{Mismatch, Arity, ArmRepeated, Oversize}
-use Rattle.px_types.specs.declared.typed.Typed.{Typed}
 use Rattle.px_types.specs.declared.typed.Slots.{Slots}
 use Rattle.px_types.specs.Written.{HasPattern}
 use Rattle.px_types.specs.Faults.{Broken, breaks, Env, IsTyped, Breaks, BreaksVariables, Agrees}
 use Rattle.px_types.specs.Faults as faults
-use Rattle.px_types.specs.Outcomes.{onward, needs, there, each_two, along}
-use Rattle.px_types.specs.Outcome.{is_met, ArmPart, part_of, term_found, Chosen, pattern_of, is_open, agrees, variable_met, arm_found}
+use Rattle.px_types.specs.Outcomes.{each_two}
+use Rattle.px_types.specs.Outcome.{part_of, term_found, Chosen, pattern_of, is_open, agrees, variable_met, arm_found}
 use Rattle.px_types.proofs.Exact.{Exact, Both, Either, first, later, exact_as, exact_at, exact_ok, exact_needs, exact_there, exact_then, Every, AllTwo, OneOfTwo, exact_each_two}
 use Rattle.px_types.proofs.Exact as exact
 use Rattle.px_types.proofs.Sameness.{decides_same}

@@ -2,7 +2,6 @@
 use Rattle.std.proofs.Common.{◌≡◌, ℕ, Bool, true, false, List, [], ◌∷◌, length, Option, Some, None, Result, Ok, Err, refl, sym, ◌∙◌, ap, subst, Decides, arith}
 use Rattle.std.proofs.lemmas.Bool.{false≢true}
 use Rattle.std.specs.Result.{MatchResult}
-use Rattle.std.specs.List.{All}
 use Rattle.px_types.specs.declared.ends.TypeKind.{TypeKind}
 use Rattle.px_types.specs.Faults.{Broken, breaks}
 use Rattle.px_types.specs.Outcomes.{onward, needs, there, each, each_two, along}

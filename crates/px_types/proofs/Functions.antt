@@ -1,5 +1,5 @@
 -- What is called or passed: its signature and its counts, as tests and as the rules say.
-use Rattle.std.proofs.Common.{◌≡◌, ◌⊎◌, ℕ, ◌<◌, ◌≤◌, Bool, true, false, List, [], ◌∷◌, length, map, Option, Some, None, refl, sym, ◌∙◌, ap, subst, Decides, arith}
+use Rattle.std.proofs.Common.{◌≡◌, ℕ, ◌≤◌, List, [], ◌∷◌, length, map, Option, Some, None, refl, sym, ap, Decides, arith}
 use Rattle.std.specs.Prelude.{◌==◌, slice_get}
 use Rattle.std.specs.List.{All, list_all}
 use Rattle.std.specs.Option.{IsSomeAnd, option_map}
@@ -23,7 +23,7 @@ use Rattle.px_terms.specs.Typing as typing
 use Rattle.px_terms.specs.TypedPrograms.{IsWritten}
 use Rattle.px_types.specs.Faults.{Env, Counts, counts_of, types_of_function, IsFunctionMet, HasArgumentCount}
 use Rattle.px_types.specs.Laws.{IsPlaced}
-use Rattle.px_types.specs.Outcome.{is_small, is_met, is_function_met, Signature, signature_of, passes, stands_before, are_own, may_call, may_pass, has_argument_count, has_counts, is_alike, same, same_all}
+use Rattle.px_types.specs.Outcome.{is_met, is_function_met, Signature, signature_of, stands_before, are_own, may_call, may_pass, has_argument_count, has_counts, is_alike}
 use Rattle.px_types.proofs.TypesExact.{decides_small}
 use Rattle.px_types.proofs.Sameness.{decides_same, decides_same_all}
 use Rattle.px_types.proofs.Known.{decides_passes}
@@ -173,7 +173,7 @@ module _ (E : Env) where
   function_is (of_variable stands params result) = rw (stands, params, result) refl
 
   pub function_counts : {f : Fun} {takes : List FnType} {params : List Ty} {T : Ty} → IsFunction E.program E.context f takes params T → counts_of E f.head ≡ Some (record { types = length f.types; functions = length takes; values = length params })
-  function_counts (of_definition {D = D} stands count are takes params result) = rw (stands, takes, params, length-map, length-map, count) refl
+  function_counts (of_definition {types = types} {D = D} stands count are takes params result) = rw (stands, takes, params, length-map D.funs (fn_type_instance types), length-map D.params (ty_instance types), count) refl
   function_counts (at_most result) = refl
   function_counts (equal result) = refl
   function_counts (of_variable stands params result) = rw (stands, params) refl

@@ -17,7 +17,7 @@ use Rattle.px_terms.specs.declared.program.Declared.{Declared}
 use Rattle.px_terms.specs.declared.program.Declared.TheVariants as declared
 use Rattle.px_terms.specs.declared.program.Program.{Program}
 use Rattle.px_terms.specs.Implied.{Closure, known, sel_gives_idem, conn_gives_refl, asym_gives_irrefl, asym_gives_antisym, irrefl_and_trans_give_asym, HasAtMost, HasEqual}
-use Rattle.px_terms.specs.Typing.{Place, anywhere, in_body, behind, IsEarlier, IsDeclaredBefore, IsSaid, IsKnown}
+use Rattle.px_terms.specs.Typing.{Place, anywhere, in_body, behind, IsDeclaredBefore, IsSaid, IsKnown}
 use Rattle.px_types.specs.Faults.{Env}
 use Rattle.px_types.specs.Outcome.{passes, obligations_before, same_prop, is_property_of, is_among, is_said, is_implied, has_wanted}
 

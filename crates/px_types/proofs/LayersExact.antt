@@ -1,8 +1,8 @@
 -- Variables, literals, constructions and calls are found exactly as the rules say.
-use Rattle.std.proofs.Common.{◌≡◌, ℕ, zero, suc, ◌+◌, ◌<◌, ◌≤◌, ◌^◌, Bool, true, false, List, [], ◌∷◌, length, map, Option, Some, None, Result, Ok, Err, refl, sym, ◌∙◌, ap, subst, Decides, arith}
+use Rattle.std.proofs.Common.{◌≡◌, ℕ, zero, suc, ◌+◌, ◌<◌, ◌≤◌, ◌^◌, List, [], ◌∷◌, length, map, Option, Some, None, Ok, refl, sym, ◌∙◌, ap, subst, Decides, arith}
 use Rattle.std.specs.Prelude.{slice_get, nat_lt}
 use Rattle.std.specs.List.{All}
-use Rattle.std.specs.Option.{IsSomeAnd, option_map, option_and_then}
+use Rattle.std.specs.Option.{option_map, option_and_then}
 use Rattle.std.proofs.lemmas.Bool.{false≢true}
 use Rattle.std.proofs.lemmas.Bool.Decides.{Decides-ltb, Decides-eqb, Decides-and, Decides-like}
 use Rattle.std.proofs.lemmas.List.{length-map}
@@ -11,11 +11,10 @@ use Rattle.px_base.specs.declared.limits.TheConstants.{TYPE_NODES, TYPE_DEPTH}
 use Rattle.px_base.specs.declared.head.Head.{Head}
 use Rattle.px_base.specs.declared.raw.RawTy.{RawTy}
 use Rattle.px_base.specs.declared.raw.RawFun.{RawFun}
-use Rattle.px_base.specs.declared.raw.RawKind.{RawKind, out-RawKind}
+use Rattle.px_base.specs.declared.raw.RawKind.{out-RawKind}
 use Rattle.px_base.specs.declared.raw.RawKind.TheOpen.{RawKind-F}
 use Rattle.px_base.specs.declared.raw.RawTerm.{RawTerm}
-use Rattle.px_base.specs.declared.raw.RawArm.{RawArm}
-use Rattle.px_terms.specs.declared.types.Ty.{Ty, out-Ty}
+use Rattle.px_terms.specs.declared.types.Ty.{Ty}
 use Rattle.px_terms.specs.declared.types.Ty.TheVariants as type
 use Rattle.px_terms.specs.declared.types.Ty.TheOpen.{Ty-F}
 use Rattle.px_terms.specs.declared.types.FnType.{FnType}
@@ -26,7 +25,7 @@ use Rattle.px_terms.specs.declared.term.Term.TheOpen.{Term-F}
 use Rattle.px_terms.specs.declared.program.ConDef.{ConDef}
 use Rattle.px_terms.specs.declared.program.DataDef.{DataDef}
 use Rattle.px_terms.specs.declared.program.Program.{Program}
-use Rattle.px_terms.specs.Types.{ty_instance, tys_instance, ty_size, ty_depth, tys_size, tys_depth}
+use Rattle.px_terms.specs.Types.{ty_instance, tys_instance, tys_size, tys_depth}
 use Rattle.px_terms.specs.TreeEquations.{ty_size-Con, ty_depth-Con}
 use Rattle.px_terms.specs.Programs.{constructor_at}
 use Rattle.px_terms.specs.Typing.{Place, IsMet, IsFunction, MayCall, AreArguments, HasTypeLayer, HaveTypes, AreTypes, IsTypeLayer}
@@ -38,15 +37,15 @@ use Rattle.px_types.specs.Written.{AreTys, IsFun, AreFuns, IsTermLayer, AreTerms
 use Rattle.px_types.specs.Written as written
 use Rattle.px_types.specs.Faults.{Broken, breaks, Env, Counts, counts_of, con_counts, HasCounts, Begins, AreRight, BreaksTys, IsTyped, AreTyped, AreRightArguments, BreaksArgument, BreaksArguments, IsCalled, Breaks, BreaksParts}
 use Rattle.px_types.specs.Faults as faults
-use Rattle.px_types.specs.Outcomes.{onward, needs, there, each_two}
+use Rattle.px_types.specs.Outcomes.{onward, needs}
 use Rattle.px_types.specs.Laws.{IsDeclaring}
-use Rattle.px_types.specs.Outcome.{tys_found, is_met, has_con_counts, has_counts, passes, may_call, Signature, signature_of, Part, part_of, part_found, variable_found, type_of_variable, kind_found, con_found, call_found, arguments_found}
+use Rattle.px_types.specs.Outcome.{has_con_counts, has_counts, Signature, signature_of, part_of, variable_found, type_of_variable, con_found, call_found}
 use Rattle.px_types.proofs.Exact.{Exact, Both, Either, first, later, exact_as, exact_at, exact_ok, exact_needs, exact_there, exact_then, Every, AllTwo, OneOfTwo}
 use Rattle.px_types.proofs.Exact as exact
-use Rattle.px_types.proofs.TypesExact.{exact_types, same_length, are_types, written_parts, ConParts, con_parts}
+use Rattle.px_types.proofs.TypesExact.{exact_types, same_length, are_types, written_parts, con_parts}
 use Rattle.px_types.proofs.Functions.{small_of, all_met, decides_met, decides_none, decides_counts, decides_may_call, TakesTypes, no_signature, function_of, function_is, function_counts, function_types}
-use Rattle.px_types.proofs.ArgumentsExact.{written_of, IsRightFun, exact_arguments, right_funs, right_arguments, all_right_funs, are_right_arguments, Found, found_arguments, broken_arguments, arguments_broken}
-use Rattle.px_types.proofs.TermsExact.{type_is_met, TermIsExact, IsPart, BreaksPart, exact_parts, terms_of, have_types, all_parts, are_typed, FoundParts, found_parts, broken_parts, parts_broken}
+use Rattle.px_types.proofs.ArgumentsExact.{written_of, IsRightFun, exact_arguments, right_funs, right_arguments, all_right_funs, are_right_arguments, found_arguments, broken_arguments, arguments_broken}
+use Rattle.px_types.proofs.TermsExact.{TermIsExact, IsPart, exact_parts, terms_of, have_types, all_parts, are_typed, found_parts, broken_parts, parts_broken}
 
 one_some : {X : Type 0} {x y : X} → Some x ≡ Some y → x ≡ y
 one_some e = cc

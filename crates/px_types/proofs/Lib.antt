@@ -14,6 +14,13 @@ pub mod SlotLemmas
 pub mod ArmsExact
 pub mod MatchExact
 pub mod AllExact
+pub mod MetSteps
+pub mod TwoLoops
+pub mod HeadSteps
+pub mod SaidSteps
+pub mod AlikeSteps
+pub mod ArmSteps
+pub mod TermSteps
 pub mod TypeOfShapes
 pub mod TypeOfExact
 pub mod TypeOfSteps

@@ -1,12 +1,12 @@
 -- Matches are found exactly as the rules say.
-use Rattle.std.proofs.Common.{◌≡◌, ◌⊎◌, inl, inr, ℕ, zero, suc, ◌+◌, ◌<◌, ◌≤◌, Bool, true, false, List, [], ◌∷◌, ◌++◌, length, map, reverse, Option, Some, None, Result, Ok, Err, refl, sym, ◌∙◌, ap, subst, Decides, arith}
-use Rattle.std.specs.Prelude.{slice_get, slice_set, replicate, Contains}
+use Rattle.std.proofs.Common.{◌≡◌, ◌⊎◌, inl, inr, ℕ, zero, suc, ◌+◌, ◌<◌, List, [], ◌∷◌, ◌++◌, length, map, reverse, Option, Some, None, refl, sym, ◌∙◌, ap, subst, arith}
+use Rattle.std.specs.Prelude.{slice_get, slice_set, Contains}
 use Rattle.std.specs.List.{All}
-use Rattle.std.specs.Option.{IsSomeAnd, option_map, option_and_then}
+use Rattle.std.specs.Option.{option_map}
 use Rattle.std.proofs.lemmas.List.{length-map}
 use Rattle.px_base.specs.Distinct.{AreDistinct}
 use Rattle.px_base.specs.Distinct as distinct
-use Rattle.px_base.specs.declared.raw.RawKind.{RawKind, out-RawKind}
+use Rattle.px_base.specs.declared.raw.RawKind.{out-RawKind}
 use Rattle.px_base.specs.declared.raw.RawKind.TheOpen.{RawKind-F}
 use Rattle.px_base.specs.declared.raw.RawTerm.{RawTerm}
 use Rattle.px_base.specs.declared.raw.RawArm.{RawArm}
@@ -19,7 +19,6 @@ use Rattle.px_terms.specs.declared.term.Term.TheOpen.{Term-F}
 use Rattle.px_terms.specs.declared.program.ConDef.{ConDef}
 use Rattle.px_terms.specs.declared.program.DataDef.{DataDef}
 use Rattle.px_terms.specs.declared.program.Program.{Program}
-use Rattle.px_terms.specs.Types.{tys_instance}
 use Rattle.px_terms.specs.Programs.{constructor_at}
 use Rattle.px_terms.specs.Typing.{IsMet, HasTypeLayer, HaveTypesInArms}
 use Rattle.px_terms.specs.Typing as typing
@@ -30,9 +29,9 @@ use Rattle.px_types.specs.Written.{cons_of, HasPattern, IsTermLayer, AreArms}
 use Rattle.px_types.specs.Written as written
 use Rattle.px_types.specs.Faults.{Broken, breaks, Env, IsTyped, IsDatatype, Shown, Agrees, IsPattern, Breaks, BreaksArms}
 use Rattle.px_types.specs.Faults as faults
-use Rattle.px_types.specs.Outcomes.{onward, needs, there, along}
+use Rattle.px_types.specs.Outcomes.{onward, there, along}
 use Rattle.px_types.specs.Laws.{IsDeclaring}
-use Rattle.px_types.specs.Outcome.{ArmPart, part_of, term_found, Chosen, chosen_of, arm_found, all_filled, no_arms, match_found}
+use Rattle.px_types.specs.Outcome.{part_of, term_found, Chosen, chosen_of, arm_found, all_filled, no_arms, match_found}
 use Rattle.px_types.proofs.Exact.{Exact, Both, Either, first, later, exact_as, exact_at, exact_ok, exact_there, exact_then, Every, Along, AlongBreaks, exact_along}
 use Rattle.px_types.proofs.Exact as exact
 use Rattle.px_types.proofs.TermShapes.{arm_part, part_at}
@@ -138,9 +137,9 @@ module _ (E : Env) (bound : List Ty) (on : Chosen) where
       typed = record { c = f.c; stands = ap (slice_get on.datatype.cons) here.0 ∙ con_stands declared arm f.c f.pattern f.datatype; met = f.met; has = rw (one_some here.1) f.typed.has };
     }
     | inr there ↦
-      let old = before k t there.1 in
-      let agree : f.T ≡ old.T = rw old.same at f.agree in
-      record { T = f.T; same = ap (λ (v : Slots). v.ty) f.same; typed = rw agree old.typed }
+        let old = before k t there.1 in
+        let agree : f.T ≡ old.T = rw old.same at f.agree in
+        record { T = f.T; same = ap (λ (v : Slots). v.ty) f.same; typed = rw agree old.typed }
   ]
 
   arms_typed : slice_get E.program.datatypes on.number ≡ Some on.datatype → {s u : Slots} {arms : List RawArm} → ArmsFound s arms u → ((k : ℕ) (t : Term) → slice_get s.bodies k ≡ Some (Some t) → SlotTyped s k t) → (k : ℕ) (t : Term) → slice_get u.bodies k ≡ Some (Some t) → SlotTyped u k t
@@ -273,7 +272,7 @@ module _ (E : Env) (bound : List Ty) (on : Chosen) (at : ℕ) (declared : slice_
   shows_start = record {
     ty = refl;
     closed = λ k h e. absurd (omega (arith, h.1));
-    opens = λ k below absent. replicate_get (length on.datatype.cons) k (rw (replicate_length {X = Term} (length on.datatype.cons)) at below);
+    opens = λ k below absent. replicate_get (length on.datatype.cons) k (rw (replicate_length (length on.datatype.cons)) at below);
     same = replicate_length (length on.datatype.cons);
   }
 
@@ -298,11 +297,11 @@ module _ (E : Env) (bound : List Ty) (on : Chosen) (at : ℕ) (declared : slice_
     are_fields = refl;
   }
 
-  agree_to : {shown : Shown} {s : Slots} {T : Ty} → Shows shown s → Agrees s.ty T → Agrees shown.T T
-  agree_to {T = T} shows agree = subst (λ (o : Option Ty). Agrees o T) (sym shows.ty) agree
+  agree_to : {shown : Shown} {s : Slots} (T : Ty) → Shows shown s → Agrees s.ty T → Agrees shown.T T
+  agree_to T shows agree = subst (λ (o : Option Ty). Agrees o T) (sym shows.ty) agree
 
-  agree_from : {shown : Shown} {s : Slots} {T : Ty} → Shows shown s → Agrees shown.T T → Agrees s.ty T
-  agree_from {T = T} shows agree = subst (λ (o : Option Ty). Agrees o T) shows.ty agree
+  agree_from : {shown : Shown} {s : Slots} (T : Ty) → Shows shown s → Agrees shown.T T → Agrees s.ty T
+  agree_from T shows agree = subst (λ (o : Option Ty). Agrees o T) shows.ty agree
 
   contained : {shown : Shown} {s : Slots} (arm : RawArm) (c : ConDef) → Shows shown s → PatternIs E arm c → arm.datatype ≡ on.number → (slice_get s.bodies arm.con ≡ Some None → ⊥) → Contains shown.cons arm.con
   contained {shown} arm c shows pattern datatype closed = elim (contains_or shown.cons arm.con) [
@@ -311,7 +310,7 @@ module _ (E : Env) (bound : List Ty) (on : Chosen) (at : ℕ) (declared : slice_
   ]
 
   later_shown : {shown : Shown} {s u : Slots} {arm : RawArm} {arms : List RawArm} {b : Broken} (f : ArmFound E bound on s arm u) → Shows shown s → BreaksArms E bound at on.number on.types (shown_after shown arm f.T) arms b → BreaksArms E bound at on.number on.types shown (arm ∷ arms) b
-  later_shown {shown} {s} {u} {arm} f shows br = faults.later_arm (pattern_is shown s arm f.c shows f.pattern f.datatype f.opens) f.met f.typed (agree_to shows f.agree) br
+  later_shown {shown} {s} {u} {arm} f shows br = faults.later_arm (pattern_is shown s arm f.c shows f.pattern f.datatype f.opens) f.met f.typed (agree_to f.T shows f.agree) br
 
   breaks_to : {s : Slots} {arms : List RawArm} {b : Broken} → ArmsBreak E bound on s arms b → (shown : Shown) → Shows shown s → BreaksArms E bound at on.number on.types shown arms b
   breaks_to {s} (exact.here {x = arm} br) shown shows = elim br [
@@ -320,7 +319,7 @@ module _ (E : Env) (bound : List Ty) (on : Chosen) (at : ℕ) (declared : slice_
     | again {c = c} pattern datatype closed e ↦ faults.repeated (has_pattern E arm c pattern) datatype (contained arm c shows pattern datatype closed) e
     | variable {c = c} pattern datatype opens br ↦ faults.in_variables (pattern_is shown s arm c shows pattern datatype opens) br
     | body {c = c} pattern datatype opens met br ↦ faults.in_arm (pattern_is shown s arm c shows pattern datatype opens) met br
-    | unlike {c = c} pattern datatype opens met typed other e ↦ faults.disagrees (pattern_is shown s arm c shows pattern datatype opens) met typed (λ agree. other (agree_from shows agree)) e
+    | unlike {c = c} {T = T} pattern datatype opens met typed other e ↦ faults.disagrees (pattern_is shown s arm c shows pattern datatype opens) met typed (λ agree. other (agree_from T shows agree)) e
   ]
   breaks_to (exact.behind {x = arm} f br) shown shows = later_shown f shows (breaks_to br (shown_after shown arm f.T) (shows_next f shows))
 
@@ -341,7 +340,7 @@ module _ (E : Env) (bound : List Ty) (on : Chosen) (at : ℕ) (declared : slice_
 
   -- A pattern that is right fits the slots.
   record Fitting (s : Slots) (arm : RawArm) (c : ConDef) : Type 0 where
-    pattern : PatternIs E arm c
+    fits : PatternIs E arm c
     opens : slice_get s.bodies arm.con ≡ Some None
 
   fitting : {shown : Shown} {s : Slots} {arm : RawArm} {fields : List Ty} → Shows shown s → (p : IsPattern E on.number on.types shown arm fields) → Fitting s arm p.con
@@ -349,7 +348,7 @@ module _ (E : Env) (bound : List Ty) (on : Chosen) (at : ℕ) (declared : slice_
       let stands : constructor_at E.program arm.datatype arm.con ≡ Some p.con = rw p.datatype p.stands in
       let pattern : PatternIs E arm p.con = record { stands = stands; count = rw stands at p.count } in
       record {
-        pattern = pattern;
+        fits = pattern;
         opens = shows.opens arm.con (rw shows.same (get_within on.datatype.cons arm.con p.con (con_stands E bound on declared arm p.con pattern p.datatype))) p.once;
       }
 
@@ -357,12 +356,12 @@ module _ (E : Env) (bound : List Ty) (on : Chosen) (at : ℕ) (declared : slice_
   breaks_from (faults.pattern_count wrong e) s shows = among (exact.here (miscounted wrong e))
   breaks_from (faults.other_datatype {arm = arm} has other e) s shows = among (exact.here (elsewhere (pattern_there E arm has).1 other e))
   breaks_from (faults.repeated {arm = arm} has datatype there e) s shows = among (exact.here (again (pattern_there E arm has).1 datatype (λ opens. shows.closed arm.con there opens) e))
-  breaks_from (faults.in_variables p br) s shows = let fit = fitting shows p in among (exact.here (variable fit.pattern p.datatype fit.opens (rw p.are_fields at br)))
-  breaks_from (faults.in_arm p met br) s shows = let fit = fitting shows p in among (exact.here (body fit.pattern p.datatype fit.opens (rw p.are_fields at met) (rw p.are_fields at br)))
-  breaks_from (faults.disagrees p met typed other e) s shows = let fit = fitting shows p in among (exact.here (unlike fit.pattern p.datatype fit.opens (rw p.are_fields at met) (rw p.are_fields at typed) (λ agree. other (agree_to shows agree)) e))
+  breaks_from (faults.in_variables p br) s shows = let fit = fitting shows p in among (exact.here (variable fit.fits p.datatype fit.opens (rw p.are_fields at br)))
+  breaks_from (faults.in_arm p met br) s shows = let fit = fitting shows p in among (exact.here (body fit.fits p.datatype fit.opens (rw p.are_fields at met) (rw p.are_fields at br)))
+  breaks_from (faults.disagrees {T = T} p met typed other e) s shows = let fit = fitting shows p in among (exact.here (unlike fit.fits p.datatype fit.opens (rw p.are_fields at met) (rw p.are_fields at typed) (λ agree. other (agree_to T shows agree)) e))
   breaks_from (faults.later_arm {arm = arm} {t = t} {T = T} p met typed agree br) s shows =
       let fit = fitting shows p in
-      let f : ArmFound E bound on s arm (filled E bound on s arm.con t T) = record { c = p.con; t = t; T = T; pattern = fit.pattern; datatype = p.datatype; opens = fit.opens; met = rw p.are_fields at met; typed = rw p.are_fields at typed; agree = agree_from shows agree; same = refl } in
+      let f : ArmFound E bound on s arm (filled E bound on s arm.con t T) = record { c = p.con; t = t; T = T; pattern = fit.fits; datatype = p.datatype; opens = fit.opens; met = rw p.are_fields at met; typed = rw p.are_fields at typed; agree = agree_from T shows agree; same = refl } in
       behind_one f (breaks_from br (filled E bound on s arm.con t T) (shows_next f shows))
   breaks_from (faults.missing {k = k} {D = D} stands below absent e) s shows =
       let same : D ≡ on.datatype = one_some (sym stands ∙ declared) in
@@ -485,10 +484,10 @@ module _ (E : Env) (open_ : IsDeclaring E) (bound : List Ty) (at : ℕ) (scrutin
       exact_then (exact_there u.ty ArmMissing at) (λ T ty.
       exact_ok (record { term = term.Match found.term on.number on.types bodies; ty = T })))))))
       (λ found both.
-        let rest = both.after in
-        let chosen = chosen_some E.program both.x.ty rest.x rest.is in
-        let last = rest.after.after in
-        rw last.after.after (match_typed rest.x chosen.stands rest.after.x rest.after.is last.x last.is both.x.term both.x.ty last.after.x both.is chosen.same last.after.is))
+      let rest = both.after in
+      let chosen = chosen_some E.program both.x.ty rest.x rest.is in
+      let last = rest.after.after in
+      rw last.after.after (match_typed rest.x chosen.stands rest.after.x rest.after.is last.x last.is both.x.term both.x.ty last.after.x both.is chosen.same last.after.is))
       (λ found typed. let taken = match_taken found.term found.ty typed in record {
         x = record { term = taken.scrutinee_term; ty = taken.U };
         is = taken.typed;
@@ -507,15 +506,15 @@ module _ (E : Env) (open_ : IsDeclaring E) (bound : List Ty) (at : ℕ) (scrutin
         | later found typed h2 ↦ elim h2 [
           | first barred ↦ faults.no_datatype typed (not_datatype E.program found.ty barred.0) (barred.1 ∙ ap (breaks Mismatch) (part_at E scrutinee))
           | later on is h3 ↦
-            let chosen = chosen_some E.program found.ty on is in
-            let typed_as : IsTyped E bound (out-RawKind scrutinee.kind) found.term (type.Con on.number on.types) = of_datatype on found.term found.ty chosen typed in
-            elim h3 [
-              | first br ↦ faults.among_arms typed_as chosen.stands (breaks_to E bound on at chosen.stands br (record { cons = []; T = None }) (shows_start E bound on at chosen.stands))
-              | later u fs h4 ↦ elim h4 [
-                | first lacks ↦ faults.among_arms typed_as chosen.stands (missing_to E bound on at chosen.stands fs (record { cons = []; T = None }) (shows_start E bound on at chosen.stands) lacks.0 lacks.1)
-                | later bodies full h5 ↦ elim h5 [ first nothing ↦ absurd (ty_there on chosen.stands u fs bodies full nothing.0) | later T ty nothing ↦ absurd nothing ]
+              let chosen = chosen_some E.program found.ty on is in
+              let typed_as : IsTyped E bound (out-RawKind scrutinee.kind) found.term (type.Con on.number on.types) = of_datatype on found.term found.ty chosen typed in
+              elim h3 [
+                | first br ↦ faults.among_arms typed_as chosen.stands (breaks_to E bound on at chosen.stands br (record { cons = []; T = None }) (shows_start E bound on at chosen.stands))
+                | later u fs h4 ↦ elim h4 [
+                  | first lacks ↦ faults.among_arms typed_as chosen.stands (missing_to E bound on at chosen.stands fs (record { cons = []; T = None }) (shows_start E bound on at chosen.stands) lacks.0 lacks.1)
+                  | later bodies full h5 ↦ elim h5 [ first nothing ↦ absurd (ty_there on chosen.stands u fs bodies full nothing.0) | later T ty nothing ↦ absurd nothing ]
+                ]
               ]
-            ]
         ]
       ])
       (λ b h. elim h [
@@ -524,9 +523,9 @@ module _ (E : Env) (open_ : IsDeclaring E) (bound : List Ty) (at : ℕ) (scrutin
         | faults.in_scrutinee br ↦ first br
         | faults.no_datatype {t = t} {U = U} typed barred e ↦ later (record { term = t; ty = U }) typed (first (datatype_not E.program U barred, e ∙ ap (breaks Mismatch) (sym (part_at E scrutinee))))
         | faults.among_arms {d = d} {types = types} {t = t} {D = D} typed stands br ↦
-          let on : Chosen = record { number = d; types = types; datatype = D } in
-          later (record { term = t; ty = type.Con d types }) typed (later on (chosen_made E.program (type.Con d types) on (record { same = refl; stands = stands })) (elim (breaks_from E bound on at stands br (no_arms D) (shows_start E bound on at stands)) [
-            | among x ↦ first x
-            | lacking_one u fs e is ↦ later u fs (first (e, is))
-          ]))
+            let on : Chosen = record { number = d; types = types; datatype = D } in
+            later (record { term = t; ty = type.Con d types }) typed (later on (chosen_made E.program (type.Con d types) on (record { same = refl; stands = stands })) (elim (breaks_from E bound on at stands br (no_arms D) (shows_start E bound on at stands)) [
+              | among x ↦ first x
+              | lacking_one u fs e is ↦ later u fs (first (e, is))
+            ]))
       ])

@@ -1,5 +1,5 @@
 -- The bodies of a match, one for each constructor, as its arms come in any order.
-use Rattle.std.proofs.Common.{◌≡◌, ◌⊎◌, inl, inr, ℕ, zero, suc, ◌+◌, ◌<◌, ◌≤◌, Bool, true, false, List, [], ◌∷◌, length, map, Option, Some, None, refl, sym, ◌∙◌, ap, subst, arith}
+use Rattle.std.proofs.Common.{◌≡◌, ◌⊎◌, inl, inr, ℕ, zero, suc, ◌<◌, List, [], ◌∷◌, length, map, Option, Some, None, refl, sym, ap, arith}
 use Rattle.std.specs.Prelude.{slice_get, slice_set, replicate, Contains}
 use Rattle.std.specs.Option.{option_map}
 use Rattle.px_terms.specs.declared.term.Term.{Term}
@@ -60,7 +60,7 @@ open_set (Some y ∷ slots) zero x e = absurd (some_none y (one_some e))
 open_set (None ∷ slots) (suc i) x e = ap suc (open_set slots i x e)
 open_set (Some y ∷ slots) (suc i) x e = open_set slots i x e
 
-pub open_replicate : {X : Type 0} (n : ℕ) → open_count (replicate {A = Option X} n None) ≡ n
+pub open_replicate : (n : ℕ) → open_count (replicate {A = Option Term} n None) ≡ n
 unfolding open_count
 open_replicate zero = refl
 open_replicate (suc n) = ap suc (open_replicate n)
@@ -75,7 +75,7 @@ replicate_open zero k x e = some_none (Some x) (sym e)
 replicate_open (suc n) zero x e = some_none x (sym (one_some e))
 replicate_open (suc n) (suc k) x e = replicate_open n k x e
 
-pub replicate_length : {X : Type 0} (n : ℕ) → length (replicate {A = Option X} n None) ≡ n
+pub replicate_length : (n : ℕ) → length (replicate {A = Option Term} n None) ≡ n
 replicate_length zero = refl
 replicate_length (suc n) = ap suc (replicate_length n)
 

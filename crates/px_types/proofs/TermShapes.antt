@@ -1,12 +1,10 @@
 -- Written terms by their layers: an induction, and what is found of each layer.
 use Rattle.std.proofs.Common.{◌≡◌, ℕ, List, [], ◌∷◌, map, Result, refl, sym, ◌∙◌, ap, subst}
-use Rattle.std.specs.Prelude.{slice_get, ◌^◌, nat_lt}
-use Rattle.px_base.specs.declared.raw.RawTy.{RawTy}
-use Rattle.px_base.specs.declared.raw.RawFun.{RawFun}
-use Rattle.px_base.specs.declared.raw.RawKind.{RawKind, out-RawKind, roll-RawKind, out-roll-RawKind, map-RawKind, fold-RawKind, fold_out-RawKind}
+use Rattle.std.specs.Prelude.{slice_get}
+use Rattle.px_base.specs.declared.raw.RawKind.{RawKind, out-RawKind, out-roll-RawKind, map-RawKind, fold-RawKind, fold_out-RawKind}
 use Rattle.px_base.specs.declared.raw.RawKind.TheOpen.{RawKind-F, RawArm-F, RawTerm-F}
-use Rattle.px_base.specs.declared.raw.RawTerm.{RawTerm, map-RawTerm, fold_out-RawTerm, ind-RawTerm}
-use Rattle.px_base.specs.declared.raw.RawArm.{RawArm, map-RawArm, fold-RawArm, fold_out-RawArm}
+use Rattle.px_base.specs.declared.raw.RawTerm.{RawTerm, fold_out-RawTerm, ind-RawTerm}
+use Rattle.px_base.specs.declared.raw.RawArm.{RawArm, fold-RawArm, fold_out-RawArm}
 use Rattle.px_terms.specs.declared.types.Ty.{Ty}
 use Rattle.px_terms.specs.declared.term.Term.TheVariants as term
 use Rattle.px_types.specs.declared.typed.Typed.{Typed}

@@ -1,48 +1,32 @@
 -- Written terms are found exactly as the rules say.
-use Rattle.std.proofs.Common.{◌≡◌, ℕ, ◌+◌, ◌<◌, ◌≤◌, ◌^◌, Bool, true, false, List, [], ◌∷◌, ◌++◌, length, map, reverse, Option, Some, None, Result, Ok, Err, refl, sym, ◌∙◌, ap, subst, Decides, arith, lit≤}
-use Rattle.std.specs.Prelude.{slice_get, nat_lt}
-use Rattle.std.specs.List.{All}
-use Rattle.std.specs.Option.{IsSomeAnd, option_map, option_and_then}
-use Rattle.std.proofs.lemmas.Bool.{false≢true}
-use Rattle.std.proofs.lemmas.Bool.Decides.{Decides-ltb, Decides-eqb, Decides-and, Decides-like}
-use Rattle.std.proofs.lemmas.List.{length-map}
-use Rattle.px_base.specs.declared.raw.RawTy.{RawTy}
-use Rattle.px_base.specs.declared.raw.RawFun.{RawFun}
-use Rattle.px_base.specs.declared.raw.RawKind.{RawKind, out-RawKind}
-use Rattle.px_base.specs.declared.raw.RawKind.TheOpen.{RawKind-F}
+use Rattle.std.proofs.Common.{◌≡◌, ℕ, ◌<◌, List, [], ◌∷◌, length, map, Some, Result, Ok, refl, sym, ◌∙◌, ap, arith, lit≤}
+use Rattle.std.specs.Prelude.{slice_get}
+use Rattle.px_base.specs.declared.raw.RawKind.{out-RawKind}
 use Rattle.px_base.specs.declared.raw.RawTerm.{RawTerm}
-use Rattle.px_base.specs.declared.raw.RawArm.{RawArm}
-use Rattle.px_terms.specs.declared.types.Ty.{Ty, out-Ty}
+use Rattle.px_terms.specs.declared.types.Ty.{Ty}
 use Rattle.px_terms.specs.declared.types.Ty.TheVariants as type
-use Rattle.px_terms.specs.declared.types.Ty.TheOpen.{Ty-F}
-use Rattle.px_terms.specs.declared.types.FnType.{FnType}
-use Rattle.px_terms.specs.declared.types.Fun.{Fun}
-use Rattle.px_terms.specs.declared.term.Term.{Term, out-Term}
-use Rattle.px_terms.specs.declared.term.Term.TheVariants as term
+use Rattle.px_terms.specs.declared.term.Term.{Term}
 use Rattle.px_terms.specs.declared.term.Term.TheOpen.{Term-F}
 use Rattle.px_terms.specs.declared.program.ConDef.{ConDef}
 use Rattle.px_terms.specs.declared.program.DataDef.{DataDef}
 use Rattle.px_terms.specs.declared.program.Program.{Program}
-use Rattle.px_terms.specs.Types.{tys_instance, ty_size, ty_depth}
 use Rattle.px_terms.specs.TreeEquations.{ty_size-Word, ty_depth-Word}
-use Rattle.px_terms.specs.Programs.{constructor_at}
 use Rattle.px_terms.specs.Typing.{Place, anywhere, in_body, behind, IsMet, IsFunction, MayCall, AreArguments, HasTypeLayer, HaveTypes, HaveTypesInArms, AreTypes, IsTypeLayer}
 use Rattle.px_terms.specs.Typing as typing
 use Rattle.px_terms.specs.declared.sequent.Context.{Context}
-use Rattle.px_types.specs.declared.ends.TypeKind.TheVariants.{Mismatch, Arity, ArmMissing, ArmRepeated, Oversize}
+use Rattle.px_types.specs.declared.ends.TypeKind.TheVariants.{Mismatch, Oversize}
 use Rattle.px_types.specs.declared.typed.Typed.{Typed}
 use Rattle.px_types.specs.Written.{IsTermLayer, AreTerms}
 use Rattle.px_types.specs.Written as written
 use Rattle.px_types.specs.Faults.{Broken, breaks, Env, Counts, counts_of, con_counts, HasCounts, Begins, AreRight, BreaksTys, IsTyped, AreTyped, Breaks, BreaksParts}
 use Rattle.px_types.specs.Faults as faults
 use Rattle.px_types.specs.Laws.{IsDeclaring}
-use Rattle.px_types.specs.Outcomes.{onward, needs, there, each_two}
-use Rattle.px_types.specs.Outcome.{tys_found, is_met, same, Part, part_of, part_found, variable_found, type_of_variable, kind_found, term_found}
+use Rattle.px_types.specs.Outcomes.{onward, each_two}
+use Rattle.px_types.specs.Outcome.{same, part_of, part_found, term_found}
 use Rattle.px_types.proofs.Exact.{Exact, Both, Either, first, later, exact_as, exact_at, exact_ok, exact_needs, exact_there, exact_then, Every, AllTwo, OneOfTwo, exact_each_two}
 use Rattle.px_types.proofs.Exact as exact
-use Rattle.px_types.proofs.TypesExact.{exact_types, same_length, are_types}
 use Rattle.px_types.proofs.Sameness.{decides_same}
-use Rattle.px_types.proofs.Functions.{decides_met, decides_none}
+use Rattle.px_types.proofs.Functions.{decides_met}
 use Rattle.px_types.proofs.TermShapes.{part_at}
 
 -- what a typed term's type is

@@ -7,6 +7,8 @@ pub mod Answers
 pub mod Laws
 pub mod NextOutcome
 pub mod ProgramLaws
+pub mod Scopes
+pub mod Envs
 pub mod TypeOf
 pub mod Bounds
 pub mod Callees

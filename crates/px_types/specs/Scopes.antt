@@ -1,13 +1,14 @@
 -- Where a declaration stands, and what is known there of each definition.
-use Rattle.std.specs.Prelude.{◌↔◌, ℕ, List, slice_get}
-use Rattle.std.specs.Option.{IsSomeAnd}
-use Rattle.px_base.specs.PropSets.{HasProp}
+use Rattle.std.specs.Prelude.{◌≡◌, ℕ, List, slice_get}
+use Rattle.std.specs.List.{list_any}
+use Rattle.px_base.specs.PropSets.{has_prop}
 use Rattle.px_base.specs.declared.prop.Prop.{Prop}
 use Rattle.px_base.specs.declared.prop.PropSet.{PropSet}
 use Rattle.px_terms.specs.declared.program.Program.{Program}
-use Rattle.px_terms.specs.Typing.{Place, in_body, behind, IsDeclaredBefore}
+use Rattle.px_terms.specs.Typing.{Place, in_body, behind}
 use Rattle.px_types.specs.declared.env.Stand.{Stand}
 use Rattle.px_types.specs.declared.env.Stand.TheVariants.{Body, Behind}
+use Rattle.px_types.specs.Outcome.{passes, is_property_of, obligations_before}
 
 -- the place of a declaration
 abbrev pub place_of : Stand → Place
@@ -16,4 +17,5 @@ place_of (Behind count) = behind count
 
 -- the sets are those of the properties that are declared of each definition before the place
 abbrev pub Knows : Program → Place → List PropSet → Type 0
-Knows P place known = (n : ℕ) (p : Prop) → IsSomeAnd (slice_get known n) (λ (set : PropSet). HasProp set p) ↔ IsDeclaredBefore P place n p
+Knows P place known = (n : ℕ) (p : Prop) → passes (λ (set : PropSet). has_prop set p) (slice_get known n)
+    ≡ list_any (is_property_of n p) (obligations_before P place)

@@ -1,3 +1,4 @@
+//! What is in scope at a part of a declaration.
 ghost use Rattle.px_types.specs.Scopes.{place_of, Knows};
 
 use px_terms::{FnType, Program, PropSet, Ty};
@@ -6,14 +7,15 @@ use std::alloc::Global;
 
 /// Where a declaration stands: the body of this definition, or behind so many obligations.
 #[derive(Clone, Copy, Debug, PartialEq, Eq)]
-pub enum Stand {
+pub(crate) enum Stand {
     Body(u32),
     Behind(u32),
 }
 
 /// What is in scope at a part of a declaration: the program so far, the declaration's place, its type and function
 /// parameters, its data variables, and of each definition the properties that are declared before the place.
-pub struct Env<'a> {
+#[derive(Drop)]
+pub(crate) struct Env<'a> {
     pub alloc: Global,
     pub program: &'a Program,
     pub place: Stand,
@@ -25,7 +27,15 @@ pub struct Env<'a> {
 }
 
 /// A function type with types put in for its type variables.
-pub struct Wanted<'a> {
+#[derive(Clone, Copy)]
+pub(crate) struct Wanted<'a> {
     pub fun: &'a FnType,
+    pub types: &'a Items<Ty>,
+}
+
+/// Types with other types put in for their type variables.
+#[derive(Clone, Copy)]
+pub(crate) struct Instances<'a> {
+    pub tys: &'a Items<Ty>,
     pub types: &'a Items<Ty>,
 }

@@ -3,13 +3,21 @@
 //! (`specs/Written.antt`), and which fault is its first (`specs/Faults.antt`).
 #![tactic(auto)]
 
+mod alike;
+mod arguments;
+mod arms;
 mod bounds;
 mod callees;
 mod ends;
+mod env;
 mod formed;
+mod heads;
 mod knowledge;
 mod laws;
+mod met;
+mod said;
 mod scope;
+mod terms;
 #[cfg(test)]
 mod tests;
 mod typed;
@@ -18,7 +26,9 @@ mod typings;
 
 pub use ends::{TypeEnd, TypeKind};
 pub use laws::{
-    always_one, arguments_are_found, arguments_break_as_found, never_both, one_fault, one_typing, parts_are_found, parts_break_as_found, terms_are_found, terms_break_as_found, types_are_found, types_break_as_found,
+    always_one, arguments_are_found, arguments_break_as_found, never_both, one_fault, one_typing,
+    parts_are_found, parts_break_as_found, terms_are_found, terms_break_as_found, types_are_found,
+    types_break_as_found,
 };
 pub use typed::Typed;
 pub use types::{type_ty, type_tys};

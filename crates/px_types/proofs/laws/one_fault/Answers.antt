@@ -1,4 +1,4 @@
-use Rattle.std.proofs.Common.{◌≡◌, sym, ◌∙◌}
+use Rattle.std.proofs.Common.{sym, ◌∙◌}
 use Rattle.px_types.specs.declared.typed.Typed.{Typed}
 use Rattle.px_types.proofs.Exact.{one_err}
 use Rattle.px_types.proofs.AllExact.{exact_term}

@@ -1,4 +1,4 @@
-use Rattle.std.proofs.Common.{◌≡◌, sym, ◌∙◌, ap}
+use Rattle.std.proofs.Common.{sym, ◌∙◌, ap}
 use Rattle.px_types.specs.declared.typed.Typed.{Typed}
 use Rattle.px_types.proofs.Exact.{one_ok}
 use Rattle.px_types.proofs.AllExact.{exact_term}
