@@ -1,13 +1,13 @@
 -- The type of a term, step by step as the code finds it.
 use Rattle.std.proofs.Common.{◌≡◌, ◌↔◌, ℕ, zero, suc, ◌+◌, ◌<◌, ◌≤◌, ◌^◌, Bool, true, false, ◌&&◌, IsTrue, List, [], ◌∷◌, ◌++◌, length, map, reverse, get_or}
-use Rattle.std.proofs.Common.{take, drop, Option, Some, None, Result, Ok, Err, refl, sym, ◌∙◌, ap, subst, Decides, arith, drop-cons, add-one}
+use Rattle.std.proofs.Common.{drop, Option, Some, None, Result, Ok, Err, refl, sym, ◌∙◌, ap, subst, Decides, arith, drop-cons, add-one}
 use Rattle.std.specs.Prelude.{slice_get, ◌==◌, ◌-◌, nat_lt}
 use Rattle.std.specs.Option.{option_map}
 use Rattle.std.specs.Result.{IsErrAnd}
 use Rattle.std.specs.List.{list_all}
 use Rattle.std.proofs.lemmas.Bool.{false≢true}
 use Rattle.std.proofs.lemmas.Bool.Decides.{Decides-like, Decides-eqb, Decides-ltb, same_from_decides}
-use Rattle.std.proofs.lemmas.List.{length-map, length-reverse, take_more, take_all, drop_all, get_or_append_left, get_or-reverse, get_or-map}
+use Rattle.std.proofs.lemmas.List.{length-map, length-reverse, drop_all, get_or_append_left, get_or-reverse, get_or-map}
 use Rattle.std.proofs.lemmas.Option.{slice_get-map, slice_get-get_or, get_or_from_slice_get}
 use Rattle.px_terms.specs.declared.types.Ty.{Ty, out-Ty, roll-Ty, roll-out-Ty, map-Ty, fold_out-Ty}
 use Rattle.px_terms.specs.declared.types.Ty.TheVariants as type
@@ -19,32 +19,17 @@ use Rattle.px_terms.specs.declared.term.Term.TheVariants as term
 use Rattle.px_terms.specs.declared.term.Term.TheOpen.{Term-F}
 use Rattle.px_terms.specs.declared.program.ConDef.{ConDef}
 use Rattle.px_terms.specs.declared.program.Program.{Program}
-use Rattle.px_terms.specs.Types.{ty_instance_step, ty_instance, tys_instance}
-use Rattle.px_types.specs.declared.callees.Comparison.{Comparison}
-use Rattle.px_types.specs.Callees.{put_in, comparing}
-use Rattle.px_types.proofs.Exact.{Every}
+use Rattle.px_terms.specs.Types.{tys_instance}
 use Rattle.px_types.specs.declared.typings.NotTyped.{NotTyped}
 use Rattle.px_types.specs.declared.typings.NotTyped.TheVariants.{IllTyped, NoMemory}
 use Rattle.px_types.specs.Faults.{Env}
-use Rattle.px_types.specs.Outcome.{same, agrees, Signature, is_alike, type_of_variable}
+use Rattle.px_types.specs.Outcome.{same, agrees, Signature, type_of_variable}
 use Rattle.px_types.specs.TypeOf.{EndsWithout, Finds, Found, followed, when, takes, is_type_step, is_type, are_types, callee_found, argument_fits}
 use Rattle.px_types.specs.TypeOf.{arguments_fit, parts_have, arms_have, literal_type, fields_found, con_type, call_type, constructors_found, match_type}
 use Rattle.px_types.specs.TypeOf.{type_found}
-use Rattle.px_types.proofs.Sameness.{ArgsHold, ty_induction, decides_same}
-use Rattle.px_types.proofs.Functions.{IsAlike, decides_alike}
+use Rattle.px_types.proofs.Sameness.{decides_same}
 use Rattle.px_types.proofs.TypeOfExact.{then_follows, true_when}
 use Rattle.px_types.proofs.TypeOfShapes.{type_found_at}
-
--- A test that tells what another tells is that test.
-pub same_is : (T U : Ty) (r : Bool) → (IsTrue r ↔ (T ≡ U)) → r ≡ same T U
-same_is T U r h = same_from_decides r (same T U) h (decides_same T U)
-
-pub alike_is : (own : Signature) (wanted : FnType) (r : Bool) →
-    (IsTrue r ↔ ((own.takes ≡ []) × ((own.params ≡ wanted.params) × (own.result ≡ wanted.result)))) → r ≡ is_alike own wanted
-alike_is own wanted r h =
-    same_from_decides r (is_alike own wanted)
-    (Decides-like _ (λ k. record { takes = k.0; params = k.1.0; result = k.1.1 }) (λ (a : IsAlike own wanted). (a.takes, (a.params, a.result))) h)
-    (decides_alike own wanted)
 
 pub literal_is : (w : ℕ) → w < 2 ^ 64 → literal_type w ≡ Some type.Word
 unfolding literal_type
@@ -371,78 +356,6 @@ map_below f xs i h = subst (λ n. i < n) (sym (length-map xs f)) h
 
 pub map_over : {X Y : Type 0} (f : X → Y) (xs : List X) (i : ℕ) → length xs ≤ i → length (map f xs) ≤ i
 map_over f xs i h = subst (λ n. n ≤ i) (sym (length-map xs f)) h
-
--- Types with types put in, from left to right.
-module _ (f g : Ty → Ty) (tys others : List Ty) where
-  one_more : (h : Ty → Ty) (xs : List Ty) (i : ℕ) (T : Ty) → i < length xs → T ≡ get_or xs i T → take (i + 1) (map h xs) ≡ take i (map h xs) ++ h T ∷ []
-  one_more h xs i T below is = take_more (map h xs) i (h T) (map_below h xs i below) ∙ ap (λ U. take i (map h xs) ++ U ∷ []) (sym (item_map h xs i T below is))
-
-  pub same_next : (i : ℕ) (T U : Ty) (b : Bool) → i < length tys → i < length others → T ≡ get_or tys i T → U ≡ get_or others i U → (IsTrue b ↔ (f T ≡ g U)) →
-      b ≡ true → take i (map f tys) ≡ take i (map g others) → take (i + 1) (map f tys) ≡ take (i + 1) (map g others)
-  same_next i T U b h k is js tells e before = one_more f tys i T h is ∙ (λ j. before j ++ tells.0 e j ∷ []) ∙ sym (one_more g others i U k js)
-
-  pub same_fails : (i : ℕ) (T U : Ty) (b : Bool) → i < length tys → i < length others → T ≡ get_or tys i T → U ≡ get_or others i U →
-      (IsTrue b ↔ (f T ≡ g U)) → b ≡ false → IsTrue false ↔ (map f tys ≡ map g others)
-  same_fails i T U b h k is js tells e = (
-    λ t. absurd (false≢true t),
-    λ all. absurd
-        (false≢true (sym e ∙ tells.1 (item_map f tys i T h is ∙ ap (λ (xs : List Ty). get_or xs i (f T)) all ∙ get_or-map g others i U (f T) k
-        ∙ ap g (sym js)))),
-  )
-
-  pub same_end : (i : ℕ) → length tys ≤ i → length others ≤ i → take i (map f tys) ≡ take i (map g others) → IsTrue true ↔ (map f tys ≡ map g others)
-  same_end i h k before = (λ _. sym (take_all i (map f tys) (map_over f tys i h)) ∙ before ∙ take_all i (map g others) (map_over g others i k), λ _. refl)
-
-  pub same_uneven : (length tys ≡ length others → ⊥) → IsTrue false ↔ (map f tys ≡ map g others)
-  same_uneven h = (λ t. absurd (false≢true t), λ all. absurd (h (sym (length-map tys f) ∙ ap length all ∙ length-map others g)))
-
--- Whether what is called has a wanted type, test by test.
-module _ (own : Signature) (wanted : FnType) where
-  pub alike_takes : (takes : List FnType) (f : FnType → FnType) (b : Bool) → own.takes ≡ map f takes → (IsTrue b ↔ (takes ≡ [])) → b ≡ false →
-      false ≡ is_alike own wanted
-  alike_takes others f b is tells e =
-      alike_is own wanted false (λ t. absurd (false≢true t), λ k. absurd (false≢true (sym e ∙ tells.1 (none_of others (sym is ∙ k.0)))))
-    where
-      none_of : (others : List FnType) → map f others ≡ [] → others ≡ []
-      none_of [] e = refl
-      none_of (F ∷ others) e = absurd cc
-
-  pub alike_params : (b : Bool) → (IsTrue b ↔ (own.params ≡ wanted.params)) → b ≡ false → false ≡ is_alike own wanted
-  alike_params b tells e = alike_is own wanted false (λ t. absurd (false≢true t), λ k. absurd (false≢true (sym e ∙ tells.1 k.1.0)))
-
-  pub alike_result : (takes : List FnType) (f : FnType → FnType) (a b c : Bool) → own.takes ≡ map f takes → (IsTrue a ↔ (takes ≡ [])) → a ≡ true →
-      (IsTrue b ↔ (own.params ≡ wanted.params)) → b ≡ true → (IsTrue c ↔ (own.result ≡ wanted.result)) → c ≡ is_alike own wanted
-  alike_result others f a b c is none e params d result =
-      alike_is own wanted c (λ t. (is ∙ ap (map f) (none.0 e), (params.0 d, result.0 t)), λ k. result.1 k.1.1)
-
--- a type stays as it is where no type is put in
-abbrev Stays : Ty → Type 0
-Stays T = ty_instance [] T ≡ T
-
-all_stay : (args : List Ty) → Every Stays args → tys_instance [] args ≡ args
-all_stay [] all = refl
-all_stay (T ∷ args) (one, all) = λ i. one i ∷ all_stay args all i
-
-layer_stays : (y : Ty-F Ty) → ArgsHold Stays y → ty_instance_step [] (map-Ty Ty Ty (ty_instance []) y) ≡ roll-Ty y
-layer_stays Ty-F.Word all = sym type.rolls-Word
-layer_stays (Ty-F.Var n) all = sym (type.rolls-Var n)
-layer_stays (Ty-F.Con d args) all = ap (type.Con d) (all_stay args all) ∙ sym (type.rolls-Con d args)
-
-stays : (T : Ty) → ty_instance [] T ≡ T
-stays = ty_induction Stays (λ T all. fold_out-Ty Ty (ty_instance_step []) T ∙ layer_stays (out-Ty T) all ∙ roll-out-Ty T)
-
-stay : (types : List Ty) → tys_instance [] types ≡ types
-stay [] = refl
-stay (T ∷ types) = λ i. stays T i ∷ stay types i
-
--- a function variable is called at no types
-pub variable_is : (b : Comparison) (F : FnType) → b ≡ comparing → put_in b.types b.takes F.params F.result ≡ record
-    { takes = []; params = F.params; result = F.result }
-variable_is b F e = rw e (λ i. record { takes = []; params = stay F.params i; result = stays F.result i })
-
--- a test of two types is one of what they are
-pub tells_of : (r : Bool) (S T U V : Ty) → S ≡ U → T ≡ V → (IsTrue r ↔ (S ≡ T)) → (IsTrue r ↔ (U ≡ V))
-tells_of r S T U V left right tells = (λ e. sym left ∙ tells.0 e ∙ right, λ e. tells.1 (left ∙ e ∙ sym right))
 
 pub arguments_uneven_map : (g : FnType → FnType) (E : Env) (fs : List Fun) (others : List FnType) → (length fs ≡ length others → ⊥) →
     arguments_fit E fs (map g others) ≡ None

@@ -1,8 +1,8 @@
 //! What is in scope at each part of a term.
 ghost use Rattle.std.specs.Prelude.{◌≡◌};
-ghost use Rattle.px_types.specs.Callees.{comparing};
+ghost use Rattle.px_types.specs.Envs.{comparing};
 
-use crate::callees::Comparison;
+use crate::heads::BuiltIn;
 use px_terms::{Context, Program};
 use std::alloc::Global;
 
@@ -12,6 +12,6 @@ pub(crate) struct Scope<'a> {
     pub(crate) alloc: Global,
     pub(crate) program: &'a Program,
     pub(crate) context: &'a Context,
-    pub(crate) comparison: &'a Comparison,
+    pub(crate) comparison: &'a BuiltIn,
     ghost compares: { comparison.now ≡ comparing },
 }

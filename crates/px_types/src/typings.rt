@@ -5,17 +5,20 @@ ghost use Rattle.px_terms.specs.declared.types.Ty.TheVariants as kinds;
 ghost use Rattle.px_terms.specs.Types.{ty_instance, tys_instance};
 ghost use Rattle.px_terms.specs.Typing.{HasType, anywhere};
 ghost use Rattle.px_types.specs.Bounds.{bound_of, here};
+ghost use Rattle.px_types.specs.Envs.{tys_of};
 ghost use Rattle.px_types.specs.Outcome.{agrees, same, type_of_variable};
 ghost use Rattle.px_types.specs.TypeOf.{EndsWithout, Finds, HasConstructors, TypedHaveConstructors, TypesAreExact, arms_have, constructors_found, fields_found, literal_type, parts_have, type_found};
 ghost use Rattle.px_types.specs.declared.typings.NotTyped.TheVariants as ends;
 
+use crate::alike::{is_instance, is_same};
 use crate::bounds::{Around, inside_arm, pattern_variable};
-use crate::callees::{Callee, arguments_have, called_by, of_words};
+use crate::callees::{arguments_have, called_by};
+use crate::env::Instances;
 use crate::formed::is_datatype;
+use crate::heads::{Called, built_in};
 use crate::scope::Scope;
 use px_terms::{
-    ConDef, Context, NoMemory, Program, Term, Ty, copy_ty, copy_tys, instance_of_ty, same_ty,
-    same_tys,
+    ConDef, Context, NoMemory, Program, Term, Ty, copy_ty, copy_tys, instance_of_ty, same_tys,
 };
 use sqlite_items::{Items, at};
 use std::alloc::{AllocError, Global};
@@ -49,8 +52,8 @@ impl From<AllocError> for NotTyped {
 /// definition may be called and passed, and of a definition all is known that the program declares of it. IllTyped exactly
 /// where the term has no type.
 ///
-/// It takes memory: the type of each part is made, and then the type that the part should have, one part at a time and none
-/// where their numbers differ. Its calls nest as deep as the term. For each definition that stands where a function with
+/// It takes memory: the type of each part is made, one at a time; the type that it should have is not, nor are those of
+/// functions that are passed. Its calls nest as deep as the term. For each definition that stands where a function with
 /// properties is wanted it walks once over the program's obligations.
 ///
 /// Each datatype of the program needs a constructor, as those of a typed program have: a match on a value of a datatype that
@@ -67,7 +70,7 @@ pub fn type_of(
     ensures only { (T : Kind) → HasType program.now anywhere context.now term.now T → MatchResult result (λ found. found ≡ T) (λ end. end ≡ NotTyped.NoMemory) }
     ensures ill { result ≡ Err NotTyped.IllTyped → (T : Kind) → ¬ HasType program.now anywhere context.now term.now T }
 {
-    let comparison = of_words(alloc)?;
+    let comparison = built_in(alloc)?;
     let scope = Scope {
         alloc,
         program,
@@ -93,14 +96,14 @@ fn type_in(term: &Term, scope: &Scope, around: &Around) -> Result<Ty, NotTyped>
             fields,
         } => {
             let tys = fields_of(scope, *datatype, *con, types)?;
-            let wanted = Wanted { tys, types };
+            let wanted = Instances { tys, types };
             have_types(fields, scope, &*around, &wanted)?;
             datatype_at(scope.alloc, *datatype, types)
         }
         Term::Call { fun, funs, args } => {
             let called = called_by(scope, fun)?;
             arguments_have(scope, funs, called.takes, called.types)?;
-            let wanted = Wanted {
+            let wanted = Instances {
                 tys: called.params,
                 types: called.types,
             };
@@ -128,23 +131,16 @@ struct Matched<'a> {
     cons: &'a Items<ConDef>,
 }
 
-/// The types that parts should have: these, with those put in for their type variables.
-#[derive(Clone, Copy)]
-struct Wanted<'a> {
-    tys: &'a Items<Ty>,
-    types: &'a Items<Ty>,
-}
-
-/// Whether each part has the type at its place, and there are as many of both. It takes memory: no more than one wanted type
-/// is made at a time.
+/// Whether each part has the type at its place, and there are as many of both. It takes memory: the type of one part
+/// at a time, and no wanted type is made.
 #[cycle(type_in)]
 fn have_types(
     parts: &Items<Term>,
     scope: &Scope,
     around: &Around,
-    wanted: &Wanted<'_>,
+    wanted: &Instances<'_>,
 ) -> Result<(), NotTyped>
-    ensures { Finds (parts_have (bound_of around.now) (map (type_found (here scope.now)) parts.now) (tys_instance wanted.now.types.now wanted.now.tys.now)) result }
+    ensures { Finds (parts_have (bound_of around.now) (map (type_found (here scope.now)) parts.now) (tys_of wanted.now)) result }
 {
     let terms = parts.as_slice();
     let types = wanted.tys.as_slice();
@@ -153,8 +149,7 @@ fn have_types(
     }
     for index in 0..terms.len() {
         let found = type_in(&terms[index], scope, &*around)?;
-        let made = instance_of_ty(scope.alloc, &types[index], wanted.types.as_slice())?;
-        if !is_same(&found, &made) {
+        if !is_instance(&found, &types[index], wanted.types) {
             return Err(NotTyped::IllTyped);
         }
     }
@@ -234,10 +229,10 @@ fn fields_of<'a>(
 }
 
 /// The type of what is given, with its types put in. It takes memory.
-fn given(alloc: Global, called: &Callee<'_>) -> Result<Ty, NotTyped>
-    ensures { Finds (Some (ty_instance called.now.types.now called.now.gives.now)) result }
+fn given(alloc: Global, called: &Called<'_>) -> Result<Ty, NotTyped>
+    ensures { Finds (Some (ty_instance called.now.types.now called.now.result.now)) result }
 {
-    Ok(instance_of_ty(alloc, called.gives, called.types.as_slice())?)
+    Ok(instance_of_ty(alloc, called.result, called.types.as_slice())?)
 }
 
 /// The datatype at these types. It takes memory.
@@ -267,13 +262,6 @@ fn constructors_of<'a>(
         Some(data) => Ok(&data.cons),
         None => Err(NotTyped::IllTyped),
     }
-}
-
-/// Whether the types are one. It takes no memory.
-fn is_same(found: &Ty, wanted: &Ty) -> bool
-    ensures { result ≡ same found.now wanted.now }
-{
-    same_ty(found, wanted)
 }
 
 /// Whether the type is that of the arms before, where there were some. It takes no memory.

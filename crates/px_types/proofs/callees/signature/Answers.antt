@@ -2,7 +2,7 @@ use Rattle.std.proofs.Common.{List, Some, refl, sym, ◌∙◌, ap}
 use Rattle.std.specs.Prelude.{slice_get}
 use Rattle.px_terms.specs.declared.types.FnType.{FnType}
 use Rattle.px_types.specs.Outcome.{signature_of}
-use Rattle.px_types.proofs.TypeOfSteps.{variable_is}
+use Rattle.px_types.proofs.HeadSteps.{variable_is}
 use Rattle.px_types.proofs.callees.signature.Goals as goal
 
 pub returns-in-Some-at : goal.returns-in-Some-at

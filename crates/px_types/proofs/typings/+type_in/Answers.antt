@@ -1,9 +1,7 @@
-use Rattle.std.proofs.Common.{◌<◌, ◌≤◌, List, None, map, length, get_or, refl, sym, ◌∙◌, ap}
-use Rattle.px_terms.specs.declared.types.Ty.{Ty}
+use Rattle.std.proofs.Common.{◌<◌, ◌≤◌, None, map, length, get_or, refl, sym, ◌∙◌, ap}
 use Rattle.px_terms.specs.declared.types.Ty.TheVariants as ty
 use Rattle.px_terms.specs.Types.{ty_instance}
 use Rattle.px_types.specs.Bounds.{here, bound_of}
-use Rattle.px_types.specs.Outcome.{same}
 use Rattle.px_types.specs.TypeOf.{type_found}
 use Rattle.px_types.proofs.TypeOfSteps.{stage, end_is, passed_on, finds_at, item_map, map_below, map_over, parts_uneven_map, have_next, have_fails}
 use Rattle.px_types.proofs.TypeOfSteps.{have_other, have_end, arms_uneven_own, arms_next, arms_fail, arms_differ, arms_end, free_found, bound_found}
@@ -117,30 +115,28 @@ have_types-returns-in_err-found t c =
     c.index-terms-index.is (same_item _ _ _ _ (map_below (ty_instance c.args.wanted.now.types.now) c.as_slice-types.result.now c.loop-index.index below))
     c.in_err-found.ensures c.loop-index.invariant)
 
-pub have_types-returns-then-not-is_same : goal.have_types-returns-then-not-is_same
-have_types-returns-then-not-is_same t c =
+pub have_types-returns-then-not-is_instance : goal.have_types-returns-then-not-is_instance
+have_types-returns-then-not-is_instance t c =
     let below : c.loop-index.index < length c.as_slice-types.result.now = rw (← c.if-terms-types.false) c.loop-index-test.true in
-    let made = c.in_ok-made.ensures ∙ ap (λ (types : List Ty). ty_instance types c.index-types-index.result) c.as_slice.ensures in
     have_other (type_found (here c.args.scope.now)) (bound_of c.args.around.now) c.args.parts.now c.as_slice-terms.result.now
     (map (ty_instance c.args.wanted.now.types.now) c.args.wanted.now.tys.now) (map (ty_instance c.args.wanted.now.types.now) c.as_slice-types.result.now)
     c.as_slice-terms.ensures (ap (map (ty_instance c.args.wanted.now.types.now)) c.as_slice-types.ensures) c.loop-index.index c.index-terms-index.result
     (ty_instance c.args.wanted.now.types.now c.index-types-index.result) c.in_ok-found.found c.loop-index-test.true
     (map_below (ty_instance c.args.wanted.now.types.now) c.as_slice-types.result.now c.loop-index.index below) c.index-terms-index.is
     (item_map (ty_instance c.args.wanted.now.types.now) c.as_slice-types.result.now c.loop-index.index c.index-types-index.result below
-    c.index-types-index.is) c.in_ok-found.ensures (ap (same c.in_ok-found.found) (sym made) ∙ sym c.is_same.ensures ∙ c.if-not-is_same.true)
+    c.index-types-index.is) c.in_ok-found.ensures (sym c.is_instance.ensures ∙ c.if-not-is_instance.true)
     c.loop-index.invariant
 
 pub have_types-loop-index-preserved : goal.have_types-loop-index-preserved
 have_types-loop-index-preserved t c =
     let below : c.loop-index.index < length c.as_slice-types.result.now = rw (← c.if-terms-types.false) c.loop-index-test.true in
-    let made = c.in_ok-made.ensures ∙ ap (λ (types : List Ty). ty_instance types c.index-types-index.result) c.as_slice.ensures in
     have_next (type_found (here c.args.scope.now)) (bound_of c.args.around.now) c.args.parts.now c.as_slice-terms.result.now
     (map (ty_instance c.args.wanted.now.types.now) c.args.wanted.now.tys.now) (map (ty_instance c.args.wanted.now.types.now) c.as_slice-types.result.now)
     c.as_slice-terms.ensures (ap (map (ty_instance c.args.wanted.now.types.now)) c.as_slice-types.ensures) c.loop-index.index c.index-terms-index.result
     (ty_instance c.args.wanted.now.types.now c.index-types-index.result) c.in_ok-found.found c.loop-index-test.true
     (map_below (ty_instance c.args.wanted.now.types.now) c.as_slice-types.result.now c.loop-index.index below) c.index-terms-index.is
     (item_map (ty_instance c.args.wanted.now.types.now) c.as_slice-types.result.now c.loop-index.index c.index-types-index.result below
-    c.index-types-index.is) c.in_ok-found.ensures (ap (same c.in_ok-found.found) (sym made) ∙ sym c.is_same.ensures ∙ c.if-not-is_same.false)
+    c.index-types-index.is) c.in_ok-found.ensures (sym c.is_instance.ensures ∙ c.if-not-is_instance.false)
     c.loop-index.invariant
 
 pub have_types-returns : goal.have_types-returns
