@@ -1,5 +1,6 @@
 -- The type that is found of a term is exactly the one that it has.
-use Rattle.std.proofs.Common.{◌≡◌, ℕ, ◌<◌, ◌^◌, Bool, true, false, ◌&&◌, List, [], ◌∷◌, length, map, Option, Some, None, refl, sym, ◌∙◌, ap, subst, Decides, arith}
+use Rattle.std.proofs.Common.{◌≡◌, ℕ, ◌<◌, ◌^◌, Bool, true, false, ◌&&◌, List, [], ◌∷◌, length, map, Option, Some, None, refl, sym, ◌∙◌, ap, subst, Decides}
+use Rattle.std.proofs.Common.{arith}
 use Rattle.std.specs.Prelude.{slice_get}
 use Rattle.std.specs.List.{list_all}
 use Rattle.std.specs.Option.{IsSomeAnd, option_and_then}
@@ -21,11 +22,14 @@ use Rattle.px_terms.specs.declared.program.DataDef.{DataDef}
 use Rattle.px_terms.specs.declared.program.Program.{Program}
 use Rattle.px_terms.specs.declared.sequent.Context.{Context}
 use Rattle.px_terms.specs.Types.{tys_instance}
-use Rattle.px_terms.specs.Typing.{anywhere, IsType, IsTypeLayer, AreTypes, IsMet, IsFunction, IsArgument, AreArguments, IsKnown, MayPass, MayCall, HasTypeLayer, HaveTypes, HaveTypesInArms}
+use Rattle.px_terms.specs.Typing.{anywhere, IsType, IsTypeLayer, AreTypes, IsMet, IsFunction, IsArgument, AreArguments, IsKnown, MayPass, MayCall}
+use Rattle.px_terms.specs.Typing.{HasTypeLayer, HaveTypes, HaveTypesInArms}
 use Rattle.px_terms.specs.Typing as typing
 use Rattle.px_types.specs.Faults.{Counts, counts_of}
 use Rattle.px_types.specs.Outcome.{agrees, type_of_variable, Signature}
-use Rattle.px_types.specs.TypeOf.{HasConstructors, at_no_place, followed, when, takes, is_type_step, is_type, are_types, is_datatype, has_type_count, has_types, callee_found, argument_fits, arguments_fit, parts_have, arms_have, literal_type, fields_found, con_type, call_type, constructors_found, match_type, type_found, TypesAreExact}
+use Rattle.px_types.specs.TypeOf.{HasConstructors, at_no_place, followed, when, takes, is_type_step, is_type, are_types, is_datatype, has_type_count}
+use Rattle.px_types.specs.TypeOf.{has_types, callee_found, argument_fits, arguments_fit, parts_have, arms_have, literal_type, fields_found, con_type}
+use Rattle.px_types.specs.TypeOf.{call_type, constructors_found, match_type, type_found, TypesAreExact}
 use Rattle.px_types.proofs.Exact.{Every}
 use Rattle.px_types.proofs.Known.{decides_passes, decides_wanted}
 use Rattle.px_types.proofs.Sameness.{ArgsHold, ty_induction, every_ty, decides_same}

@@ -1,12 +1,13 @@
 -- The type of a term, step by step as the code finds it.
-use Rattle.std.proofs.Common.{◌≡◌, ◌↔◌, ℕ, zero, suc, ◌+◌, ◌<◌, ◌≤◌, ◌^◌, Bool, true, false, ◌&&◌, IsTrue, List, [], ◌∷◌, ◌++◌, length, map, reverse, get_or, take, drop, Option, Some, None, Result, Ok, Err, refl, sym, ◌∙◌, ap, subst, Decides, arith, drop-cons, add-one}
+use Rattle.std.proofs.Common.{◌≡◌, ◌↔◌, ℕ, zero, suc, ◌+◌, ◌<◌, ◌≤◌, ◌^◌, Bool, true, false, ◌&&◌, IsTrue, List, [], ◌∷◌, ◌++◌, length, map, reverse, get_or}
+use Rattle.std.proofs.Common.{drop, Option, Some, None, Result, Ok, Err, refl, sym, ◌∙◌, ap, subst, Decides, arith, drop-cons, add-one}
 use Rattle.std.specs.Prelude.{slice_get, ◌==◌, ◌-◌, nat_lt}
 use Rattle.std.specs.Option.{option_map}
 use Rattle.std.specs.Result.{IsErrAnd}
 use Rattle.std.specs.List.{list_all}
 use Rattle.std.proofs.lemmas.Bool.{false≢true}
 use Rattle.std.proofs.lemmas.Bool.Decides.{Decides-like, Decides-eqb, Decides-ltb, same_from_decides}
-use Rattle.std.proofs.lemmas.List.{length-map, length-reverse, map-append, take_more, drop_all, get_or_append_left, get_or-reverse}
+use Rattle.std.proofs.lemmas.List.{length-map, length-reverse, drop_all, get_or_append_left, get_or-reverse, get_or-map}
 use Rattle.std.proofs.lemmas.Option.{slice_get-map, slice_get-get_or, get_or_from_slice_get}
 use Rattle.px_terms.specs.declared.types.Ty.{Ty, out-Ty, roll-Ty, roll-out-Ty, map-Ty, fold_out-Ty}
 use Rattle.px_terms.specs.declared.types.Ty.TheVariants as type
@@ -18,27 +19,17 @@ use Rattle.px_terms.specs.declared.term.Term.TheVariants as term
 use Rattle.px_terms.specs.declared.term.Term.TheOpen.{Term-F}
 use Rattle.px_terms.specs.declared.program.ConDef.{ConDef}
 use Rattle.px_terms.specs.declared.program.Program.{Program}
-use Rattle.px_terms.specs.Types.{ty_instance, tys_instance, fn_type_instance}
+use Rattle.px_terms.specs.Types.{tys_instance}
 use Rattle.px_types.specs.declared.typings.NotTyped.{NotTyped}
 use Rattle.px_types.specs.declared.typings.NotTyped.TheVariants.{IllTyped, NoMemory}
 use Rattle.px_types.specs.Faults.{Env}
-use Rattle.px_types.specs.Outcome.{same, agrees, Signature, is_alike, type_of_variable}
-use Rattle.px_types.specs.TypeOf.{EndsWithout, Finds, Found, followed, when, takes, is_type_step, is_type, are_types, callee_found, argument_fits, arguments_fit, parts_have, arms_have, literal_type, fields_found, con_type, call_type, constructors_found, match_type, type_found}
+use Rattle.px_types.specs.Outcome.{same, agrees, Signature, type_of_variable}
+use Rattle.px_types.specs.TypeOf.{EndsWithout, Finds, Found, followed, when, takes, is_type_step, is_type, are_types, callee_found, argument_fits}
+use Rattle.px_types.specs.TypeOf.{arguments_fit, parts_have, arms_have, literal_type, fields_found, con_type, call_type, constructors_found, match_type}
+use Rattle.px_types.specs.TypeOf.{type_found}
 use Rattle.px_types.proofs.Sameness.{decides_same}
-use Rattle.px_types.proofs.Functions.{IsAlike, decides_alike}
 use Rattle.px_types.proofs.TypeOfExact.{then_follows, true_when}
 use Rattle.px_types.proofs.TypeOfShapes.{type_found_at}
-
--- A test that tells what another tells is that test.
-pub same_is : (T U : Ty) (r : Bool) → (IsTrue r ↔ (T ≡ U)) → r ≡ same T U
-same_is T U r h = same_from_decides r (same T U) h (decides_same T U)
-
-pub alike_is : (own : Signature) (wanted : FnType) (r : Bool) →
-    (IsTrue r ↔ ((own.takes ≡ []) × ((own.params ≡ wanted.params) × (own.result ≡ wanted.result)))) → r ≡ is_alike own wanted
-alike_is own wanted r h =
-    same_from_decides r (is_alike own wanted)
-    (Decides-like _ (λ k. record { takes = k.0; params = k.1.0; result = k.1.1 }) (λ (a : IsAlike own wanted). (a.takes, (a.params, a.result))) h)
-    (decides_alike own wanted)
 
 pub literal_is : (w : ℕ) → w < 2 ^ 64 → literal_type w ≡ Some type.Word
 unfolding literal_type
@@ -352,22 +343,24 @@ no_item [] i h e = absurd (omega arith)
 no_item (x ∷ xs) zero h e = absurd cc
 no_item (x ∷ xs) (suc i) h e = no_item xs i (omega arith) e
 
--- one function type more, with types put in
-pub fn_types_next : (types : List Ty) (funs looked : List FnType) → looked ≡ funs → (i : ℕ) (F : FnType) (made more : List FnType) (params : List Ty) (T : Ty)
-    → i < length looked → F ≡ get_or looked i F → made ≡ map (fn_type_instance types) (take i funs) → params ≡ tys_instance types F.params → T ≡ ty_instance
-    types F.result → more ≡ made ++ record { params = params; result = T; props = F.props } ∷ [] → more ≡ map (fn_type_instance types) (take (i + 1) funs)
-fn_types_next types funs looked same i F made more params T h is before params_are result_is pushed =
-    let item : F ≡ get_or funs i F = is ∙ ap (λ (zs : List FnType). get_or zs i F) same in
-    let below : i < length funs = rw same at h in
-    let one : ◌≡◌ {A = FnType} (record { params = params; result = T; props = F.props }) (fn_type_instance types F) =
-    λ j. record { params = params_are j; result = result_is j; props = F.props } in
-    let taken : take (i + 1) funs ≡ take i funs ++ F ∷ [] = take_more funs i F below ∙ ap (λ G. take i funs ++ G ∷ []) (sym item) in
-    pushed ∙ (λ j. before j ++ one j ∷ []) ∙ sym (ap (map (fn_type_instance types)) taken ∙ map-append (fn_type_instance types) (take i funs) (F ∷ []))
-
-pub parts_uneven_own : (own : Term → Found) (bound : List Ty) (parts : List Term) (types : List Ty) → (length parts ≡ length types → ⊥) →
-    parts_have bound (map own parts) types ≡ None
-parts_uneven_own own bound parts types h = parts_uneven bound (map own parts) types (λ e. h (sym (length-map parts own) ∙ e))
-
 pub arms_uneven_own : (own : Term → Found) (bound types : List Ty) (before : Option Ty) (cons : List ConDef) (arms : List Term) →
     (length arms ≡ length cons → ⊥) → arms_have bound types before cons (map own arms) ≡ None
 arms_uneven_own own bound types before cons arms h = arms_uneven bound types before cons (map own arms) (λ e. h (sym (length-map arms own) ∙ e))
+
+-- an item of a mapped list
+pub item_map : {X Y : Type 0} (f : X → Y) (xs : List X) (i : ℕ) (x : X) → i < length xs → x ≡ get_or xs i x → f x ≡ get_or (map f xs) i (f x)
+item_map f xs i x h is = ap f is ∙ sym (get_or-map f xs i x (f x) h)
+
+pub map_below : {X Y : Type 0} (f : X → Y) (xs : List X) (i : ℕ) → i < length xs → i < length (map f xs)
+map_below f xs i h = subst (λ n. i < n) (sym (length-map xs f)) h
+
+pub map_over : {X Y : Type 0} (f : X → Y) (xs : List X) (i : ℕ) → length xs ≤ i → length (map f xs) ≤ i
+map_over f xs i h = subst (λ n. n ≤ i) (sym (length-map xs f)) h
+
+pub arguments_uneven_map : (g : FnType → FnType) (E : Env) (fs : List Fun) (others : List FnType) → (length fs ≡ length others → ⊥) →
+    arguments_fit E fs (map g others) ≡ None
+arguments_uneven_map g E fs others h = arguments_uneven E fs (map g others) (λ e. h (e ∙ length-map others g))
+
+pub parts_uneven_map : (own : Term → Found) (bound : List Ty) (parts : List Term) (g : Ty → Ty) (types : List Ty) → (length parts ≡ length types → ⊥) →
+    parts_have bound (map own parts) (map g types) ≡ None
+parts_uneven_map own bound parts g types h = parts_uneven bound (map own parts) (map g types) (λ e. h (sym (length-map parts own) ∙ e ∙ length-map types g))

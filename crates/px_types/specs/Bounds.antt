@@ -2,7 +2,7 @@
 use Rattle.std.specs.Prelude.{List, [], ◌++◌, reverse}
 use Rattle.px_terms.specs.declared.types.Ty.{Ty}
 use Rattle.px_terms.specs.Types.{tys_instance}
-use Rattle.px_types.specs.declared.bounds.Scope.{Scope}
+use Rattle.px_types.specs.declared.scope.Scope.{Scope}
 use Rattle.px_types.specs.declared.bounds.Around.{Around}
 use Rattle.px_types.specs.declared.bounds.Around.TheOpen.{Around-F}
 use Rattle.px_types.specs.declared.bounds.Around.TheFolds.{fold-Around}

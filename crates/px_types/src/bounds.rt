@@ -1,21 +1,13 @@
-//! What is in scope at a term, and the pattern variables around it.
+//! The pattern variables around a part of a term.
 ghost use Rattle.std.specs.Prelude.{◌≡◌, ◌++◌, reverse, slice_get};
 ghost use Rattle.px_terms.specs.Types.{tys_instance};
 ghost use Rattle.px_types.specs.Bounds.{bound_of};
 ghost use Rattle.px_types.specs.TypeOf.{Finds};
 
 use crate::typings::NotTyped;
-use px_terms::{Context, Program, Ty, instance_of_ty};
+use px_terms::{Ty, instance_of_ty};
 use sqlite_items::{Items, at};
 use std::alloc::Global;
-
-/// What is in scope at each part of a term: the program, and the variables.
-#[derive(Clone, Copy)]
-pub(crate) struct Scope<'a> {
-    pub(crate) alloc: Global,
-    pub(crate) program: &'a Program,
-    pub(crate) context: &'a Context,
-}
 
 /// The pattern variables around a part of a term: outside of all arms there are none; in an arm those of its pattern, which
 /// have the types of a constructor's fields with these put in, and then those around the match. They stand on the stack.

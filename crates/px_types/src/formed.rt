@@ -3,7 +3,7 @@ ghost use Rattle.std.specs.Prelude.{◌≡◌};
 ghost use Rattle.px_types.specs.Bounds.{here};
 ghost use Rattle.px_types.specs.TypeOf as found;
 
-use crate::bounds::Scope;
+use crate::scope::Scope;
 use px_terms::{Program, Ty};
 use sqlite_items::{Items, at};
 

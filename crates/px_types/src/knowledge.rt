@@ -8,7 +8,7 @@ ghost use Rattle.px_terms.specs.Typing.{IsSaid, anywhere};
 ghost use Rattle.px_types.specs.Bounds.{here};
 ghost use Rattle.px_types.specs.Outcome.{has_wanted, is_property_of};
 
-use crate::bounds::Scope;
+use crate::scope::Scope;
 use px_props::{at_most_properties, equal_properties, has, implied, with};
 use px_terms::{Declared, Head, Program, Prop, PropSet};
 use sqlite_items::at;

@@ -31,6 +31,7 @@ mod program_laws;
 mod programs;
 mod replicas;
 mod said;
+mod scope;
 mod signatures;
 mod start;
 mod terms;

@@ -2,18 +2,23 @@
 ghost use Rattle.std.specs.Prelude.{◌≡◌, map, IfOk, MatchResult};
 ghost use Rattle.px_terms.specs.declared.types.Ty.{Ty as Kind};
 ghost use Rattle.px_terms.specs.declared.types.Ty.TheVariants as kinds;
+ghost use Rattle.px_terms.specs.Types.{ty_instance, tys_instance};
 ghost use Rattle.px_terms.specs.Typing.{HasType, anywhere};
 ghost use Rattle.px_types.specs.Bounds.{bound_of, here};
+ghost use Rattle.px_types.specs.Envs.{tys_of};
 ghost use Rattle.px_types.specs.Outcome.{agrees, same, type_of_variable};
 ghost use Rattle.px_types.specs.TypeOf.{EndsWithout, Finds, HasConstructors, TypedHaveConstructors, TypesAreExact, arms_have, constructors_found, fields_found, literal_type, parts_have, type_found};
 ghost use Rattle.px_types.specs.declared.typings.NotTyped.TheVariants as ends;
 
-use crate::bounds::{Around, Scope, inside_arm, pattern_variable};
+use crate::alike::{is_instance, is_same};
+use crate::bounds::{Around, inside_arm, pattern_variable};
 use crate::callees::{arguments_have, called_by};
+use crate::env::Instances;
 use crate::formed::is_datatype;
+use crate::heads::{Called, built_in};
+use crate::scope::Scope;
 use px_terms::{
-    ConDef, Context, NoMemory, Program, Term, Ty, copy_ty, copy_tys, instance_of_tys, same_ty,
-    same_tys,
+    ConDef, Context, NoMemory, Program, Term, Ty, copy_ty, copy_tys, instance_of_ty, same_tys,
 };
 use sqlite_items::{Items, at};
 use std::alloc::{AllocError, Global};
@@ -45,12 +50,14 @@ impl From<AllocError> for NotTyped {
 
 /// The type of a term where these variables are in scope, at no place of the text: no type that is met is too large, each
 /// definition may be called and passed, and of a definition all is known that the program declares of it. IllTyped exactly
-/// where the term has no type. It takes memory, also for the types of the parts, which are made and then compared; its calls
-/// nest as deep as the term, and it walks once over the program's obligations for each definition that stands where a
-/// function with properties is wanted.
+/// where the term has no type.
 ///
-/// Each datatype of the program needs a constructor, as each typed program has it: a match on a value of a datatype that has
-/// none has every type.
+/// It takes memory: the type of each part is made, one at a time; the type that it should have is not, nor are those of
+/// functions that are passed. Its calls nest as deep as the term. For each definition that stands where a function with
+/// properties is wanted it walks once over the program's obligations.
+///
+/// Each datatype of the program needs a constructor, as those of a typed program have: a match on a value of a datatype that
+/// has none has every type.
 pub fn type_of(
     alloc: Global,
     program: &Program,
@@ -63,10 +70,12 @@ pub fn type_of(
     ensures only { (T : Kind) → HasType program.now anywhere context.now term.now T → MatchResult result (λ found. found ≡ T) (λ end. end ≡ NotTyped.NoMemory) }
     ensures ill { result ≡ Err NotTyped.IllTyped → (T : Kind) → ¬ HasType program.now anywhere context.now term.now T }
 {
+    let comparison = built_in(alloc)?;
     let scope = Scope {
         alloc,
         program,
         context,
+        comparison: &comparison,
     };
     type_in(term, &scope, &Around::Outside)
 }
@@ -86,15 +95,20 @@ fn type_in(term: &Term, scope: &Scope, around: &Around) -> Result<Ty, NotTyped>
             types,
             fields,
         } => {
-            let wanted = fields_of(scope, *datatype, *con, types)?;
+            let tys = fields_of(scope, *datatype, *con, types)?;
+            let wanted = Instances { tys, types };
             have_types(fields, scope, &*around, &wanted)?;
             datatype_at(scope.alloc, *datatype, types)
         }
         Term::Call { fun, funs, args } => {
             let called = called_by(scope, fun)?;
-            arguments_have(scope, funs, &called.takes)?;
-            have_types(args, scope, &*around, &called.params)?;
-            Ok(called.gives)
+            arguments_have(scope, funs, called.takes, called.types)?;
+            let wanted = Instances {
+                tys: called.params,
+                types: called.types,
+            };
+            have_types(args, scope, &*around, &wanted)?;
+            given(scope.alloc, &called)
         }
         Term::Match {
             on,
@@ -117,24 +131,25 @@ struct Matched<'a> {
     cons: &'a Items<ConDef>,
 }
 
-/// Whether each part has the type at its place, and there are as many of both. It takes memory.
+/// Whether each part has the type at its place, and there are as many of both. It takes memory: the type of one part
+/// at a time, and no wanted type is made.
 #[cycle(type_in)]
 fn have_types(
     parts: &Items<Term>,
     scope: &Scope,
     around: &Around,
-    wanted: &Items<Ty>,
+    wanted: &Instances<'_>,
 ) -> Result<(), NotTyped>
-    ensures { Finds (parts_have (bound_of around.now) (map (type_found (here scope.now)) parts.now) wanted.now) result }
+    ensures { Finds (parts_have (bound_of around.now) (map (type_found (here scope.now)) parts.now) (tys_of wanted.now)) result }
 {
     let terms = parts.as_slice();
-    let types = wanted.as_slice();
+    let types = wanted.tys.as_slice();
     if terms.len() != types.len() {
         return Err(NotTyped::IllTyped);
     }
     for index in 0..terms.len() {
         let found = type_in(&terms[index], scope, &*around)?;
-        if !is_same(&found, &types[index]) {
+        if !is_instance(&found, &types[index], wanted.types) {
             return Err(NotTyped::IllTyped);
         }
     }
@@ -191,15 +206,15 @@ fn word_type(_word: u64) -> Ty
     Ty::Word
 }
 
-/// The types of the fields of a constructor at these types. It takes memory.
+/// The types of the fields of a constructor, where its datatype at these types is a type. It takes no memory.
 #[tactic(auto, unfolding(crate::specs::TypeOf::fields_found, crate::specs::TypeOf::followed, crate::specs::TypeOf::when))]
-fn fields_of(
-    scope: &Scope,
+fn fields_of<'a>(
+    scope: &Scope<'a>,
     datatype: u32,
     con: u32,
     types: &Items<Ty>,
-) -> Result<Items<Ty>, NotTyped>
-    ensures { Finds (fields_found (here scope.now) datatype con types.now) result }
+) -> Result<&'a Items<Ty>, NotTyped>
+    ensures { let wanted = fields_found (here scope.now) datatype con types.now in MatchResult result (λ fields. wanted ≡ Some (tys_instance types.now fields.now)) (EndsWithout wanted) }
 {
     if !is_datatype(scope, datatype, types) {
         return Err(NotTyped::IllTyped);
@@ -207,10 +222,17 @@ fn fields_of(
     let Some(data) = at(scope.program.datatypes.as_slice(), datatype as usize) else {
         return Err(NotTyped::IllTyped);
     };
-    let Some(constructor) = at(data.cons.as_slice(), con as usize) else {
-        return Err(NotTyped::IllTyped);
-    };
-    Ok(instance_of_tys(scope.alloc, constructor.fields.as_slice(), types.as_slice())?)
+    match at(data.cons.as_slice(), con as usize) {
+        Some(constructor) => Ok(&constructor.fields),
+        None => Err(NotTyped::IllTyped),
+    }
+}
+
+/// The type of what is given, with its types put in. It takes memory.
+fn given(alloc: Global, called: &Called<'_>) -> Result<Ty, NotTyped>
+    ensures { Finds (Some (ty_instance called.now.types.now called.now.result.now)) result }
+{
+    Ok(instance_of_ty(alloc, called.result, called.types.as_slice())?)
 }
 
 /// The datatype at these types. It takes memory.
@@ -240,13 +262,6 @@ fn constructors_of<'a>(
         Some(data) => Ok(&data.cons),
         None => Err(NotTyped::IllTyped),
     }
-}
-
-/// Whether the types are one. It takes no memory.
-fn is_same(found: &Ty, wanted: &Ty) -> bool
-    ensures { result ≡ same found.now wanted.now }
-{
-    same_ty(found, wanted)
 }
 
 /// Whether the type is that of the arms before, where there were some. It takes no memory.

@@ -1,8 +1,11 @@
-use Rattle.std.proofs.Common.{◌<◌, ◌≤◌, None, length, get_or, refl, sym, ◌∙◌}
+use Rattle.std.proofs.Common.{◌<◌, ◌≤◌, None, map, length, get_or, refl, sym, ◌∙◌, ap}
 use Rattle.px_terms.specs.declared.types.Ty.TheVariants as ty
+use Rattle.px_terms.specs.Types.{ty_instance}
 use Rattle.px_types.specs.Bounds.{here, bound_of}
 use Rattle.px_types.specs.TypeOf.{type_found}
-use Rattle.px_types.proofs.TypeOfSteps.{stage, end_is, passed_on, finds_at, parts_uneven_own, have_next, have_fails, have_other, have_end, arms_uneven_own, arms_next, arms_fail, arms_differ, arms_end, free_found, bound_found, literal_found, con_found, call_found, match_found}
+use Rattle.px_types.proofs.TypeOfSteps.{stage, end_is, passed_on, finds_at, item_map, map_below, map_over, parts_uneven_map, have_next, have_fails}
+use Rattle.px_types.proofs.TypeOfSteps.{have_other, have_end, arms_uneven_own, arms_next, arms_fail, arms_differ, arms_end, free_found, bound_found}
+use Rattle.px_types.proofs.TypeOfSteps.{literal_found, con_found, call_found, match_found}
 use Rattle.px_types.proofs.TypeOfKnown.{same_item}
 use Rattle.px_types.proofs.typings.+type_in.Goals as goal
 
@@ -18,17 +21,17 @@ pub type_in-returns-in-Lit : goal.type_in-returns-in-Lit
 type_in-returns-in-Lit t c = literal_found (here c.args.scope.now) c.args.term.now (bound_of c.args.around.now) c.in-Lit.word c.word_type.result c.in-Lit.is
     c.word_type.ensures
 
-pub type_in-returns-in_err-wanted-in-Con : goal.type_in-returns-in_err-wanted-in-Con
-type_in-returns-in_err-wanted-in-Con t c =
+pub type_in-returns-in_err-tys-in-Con : goal.type_in-returns-in_err-tys-in-Con
+type_in-returns-in_err-tys-in-Con t c =
     let whole = con_found (here c.args.scope.now) c.args.term.now (bound_of c.args.around.now) c.in-Con.datatype c.in-Con.con c.in-Con.types c.in-Con.fields
     c.in-Con.is in
-    passed_on _ _ _ whole c.from_residual.result c.in_err-wanted-in-Con.field-0.0 c.from_residual.ensures.1 c.in_err-wanted-in-Con.ensures
+    passed_on _ _ _ whole c.from_residual.result c.in_err-tys-in-Con.field-0.0 c.from_residual.ensures.1 c.in_err-tys-in-Con.ensures
 
 pub type_in-returns-in_err-have_types-in-Con : goal.type_in-returns-in_err-have_types-in-Con
 type_in-returns-in_err-have_types-in-Con t c =
     let whole = con_found (here c.args.scope.now) c.args.term.now (bound_of c.args.around.now) c.in-Con.datatype c.in-Con.con c.in-Con.types c.in-Con.fields
     c.in-Con.is in
-    let first = stage _ _ whole c.in_ok-wanted-in-Con.wanted c.in_ok-wanted-in-Con.ensures in
+    let first = stage _ _ whole _ c.in_ok-tys-in-Con.ensures in
     passed_on _ _ _ first c.from_residual-in_err-have_types-in-Con.result c.in_err-have_types-in-Con.field-0.0
     c.from_residual-in_err-have_types-in-Con.ensures.1 c.in_err-have_types-in-Con.ensures
 
@@ -36,7 +39,7 @@ pub type_in-returns-in_ok-have_types-in-Con : goal.type_in-returns-in_ok-have_ty
 type_in-returns-in_ok-have_types-in-Con t c =
     let whole = con_found (here c.args.scope.now) c.args.term.now (bound_of c.args.around.now) c.in-Con.datatype c.in-Con.con c.in-Con.types c.in-Con.fields
     c.in-Con.is in
-    let first = stage _ _ whole c.in_ok-wanted-in-Con.wanted c.in_ok-wanted-in-Con.ensures in
+    let first = stage _ _ whole _ c.in_ok-tys-in-Con.ensures in
     let second = stage _ _ first tt c.in_ok-have_types-in-Con.ensures in
     finds_at _ _ c.datatype_at.result second c.datatype_at.ensures
 
@@ -66,7 +69,8 @@ type_in-returns-in_ok-have_types-in-Call t c =
     let whole = call_found (here c.args.scope.now) c.args.term.now (bound_of c.args.around.now) c.in-Call.fun c.in-Call.funs c.in-Call.args c.in-Call.is in
     let first = stage _ _ whole _ c.in_ok-called-in-Call.ensures in
     let second = stage _ _ first tt c.in_ok-arguments_have-in-Call.ensures in
-    stage _ _ second tt c.in_ok-have_types-in-Call.ensures
+    let third = stage _ _ second tt c.in_ok-have_types-in-Call.ensures in
+    finds_at _ _ c.given.result third c.given.ensures
 
 pub type_in-returns-in_err-found-in-Match : goal.type_in-returns-in_err-found-in-Match
 type_in-returns-in_err-found-in-Match t c =
@@ -96,39 +100,52 @@ have_types-loop-index-init t c = refl
 
 pub have_types-returns-then-terms-types : goal.have_types-returns-then-terms-types
 have_types-returns-then-terms-types t c =
-    parts_uneven_own (type_found (here c.args.scope.now)) (bound_of c.args.around.now) c.args.parts.now c.args.wanted.now
-    (rw (c.as_slice-terms.ensures, c.as_slice-types.ensures) at c.if-terms-types.true)
+    parts_uneven_map (type_found (here c.args.scope.now)) (bound_of c.args.around.now) c.args.parts.now (ty_instance c.args.wanted.now.types.now)
+    c.args.wanted.now.tys.now (rw (c.as_slice-terms.ensures, c.as_slice-types.ensures) at c.if-terms-types.true)
 
 pub have_types-returns-in_err-found : goal.have_types-returns-in_err-found
 have_types-returns-in_err-found t c =
     let below : c.loop-index.index < length c.as_slice-types.result.now = rw (← c.if-terms-types.false) c.loop-index-test.true in
     end_is _ c.from_residual.result c.in_err-found.field-0.0 c.from_residual.ensures.1
-    (have_fails (type_found (here c.args.scope.now)) (bound_of c.args.around.now) c.args.parts.now c.as_slice-terms.result.now c.args.wanted.now
-    c.as_slice-types.result.now c.as_slice-terms.ensures c.as_slice-types.ensures c.loop-index.index c.index-terms-index.result
-    (get_or c.as_slice-types.result.now c.loop-index.index ty.Word) c.in_err-found.field-0.0 c.loop-index-test.true below c.index-terms-index.is
-    (same_item _ _ _ _ below) c.in_err-found.ensures c.loop-index.invariant)
+    (have_fails (type_found (here c.args.scope.now)) (bound_of c.args.around.now) c.args.parts.now c.as_slice-terms.result.now
+    (map (ty_instance c.args.wanted.now.types.now) c.args.wanted.now.tys.now) (map (ty_instance c.args.wanted.now.types.now) c.as_slice-types.result.now)
+    c.as_slice-terms.ensures (ap (map (ty_instance c.args.wanted.now.types.now)) c.as_slice-types.ensures) c.loop-index.index c.index-terms-index.result
+    (get_or (map (ty_instance c.args.wanted.now.types.now) c.as_slice-types.result.now) c.loop-index.index ty.Word) c.in_err-found.field-0.0
+    c.loop-index-test.true (map_below (ty_instance c.args.wanted.now.types.now) c.as_slice-types.result.now c.loop-index.index below)
+    c.index-terms-index.is (same_item _ _ _ _ (map_below (ty_instance c.args.wanted.now.types.now) c.as_slice-types.result.now c.loop-index.index below))
+    c.in_err-found.ensures c.loop-index.invariant)
 
-pub have_types-returns-then-not-is_same : goal.have_types-returns-then-not-is_same
-have_types-returns-then-not-is_same t c =
+pub have_types-returns-then-not-is_instance : goal.have_types-returns-then-not-is_instance
+have_types-returns-then-not-is_instance t c =
     let below : c.loop-index.index < length c.as_slice-types.result.now = rw (← c.if-terms-types.false) c.loop-index-test.true in
-    have_other (type_found (here c.args.scope.now)) (bound_of c.args.around.now) c.args.parts.now c.as_slice-terms.result.now c.args.wanted.now
-    c.as_slice-types.result.now c.as_slice-terms.ensures c.as_slice-types.ensures c.loop-index.index c.index-terms-index.result c.index-types-index.result
-    c.in_ok-found.found c.loop-index-test.true below c.index-terms-index.is c.index-types-index.is c.in_ok-found.ensures
-    (sym c.is_same.ensures ∙ c.if-not-is_same.true) c.loop-index.invariant
+    have_other (type_found (here c.args.scope.now)) (bound_of c.args.around.now) c.args.parts.now c.as_slice-terms.result.now
+    (map (ty_instance c.args.wanted.now.types.now) c.args.wanted.now.tys.now) (map (ty_instance c.args.wanted.now.types.now) c.as_slice-types.result.now)
+    c.as_slice-terms.ensures (ap (map (ty_instance c.args.wanted.now.types.now)) c.as_slice-types.ensures) c.loop-index.index c.index-terms-index.result
+    (ty_instance c.args.wanted.now.types.now c.index-types-index.result) c.in_ok-found.found c.loop-index-test.true
+    (map_below (ty_instance c.args.wanted.now.types.now) c.as_slice-types.result.now c.loop-index.index below) c.index-terms-index.is
+    (item_map (ty_instance c.args.wanted.now.types.now) c.as_slice-types.result.now c.loop-index.index c.index-types-index.result below
+    c.index-types-index.is) c.in_ok-found.ensures (sym c.is_instance.ensures ∙ c.if-not-is_instance.true)
+    c.loop-index.invariant
 
 pub have_types-loop-index-preserved : goal.have_types-loop-index-preserved
 have_types-loop-index-preserved t c =
     let below : c.loop-index.index < length c.as_slice-types.result.now = rw (← c.if-terms-types.false) c.loop-index-test.true in
-    have_next (type_found (here c.args.scope.now)) (bound_of c.args.around.now) c.args.parts.now c.as_slice-terms.result.now c.args.wanted.now
-    c.as_slice-types.result.now c.as_slice-terms.ensures c.as_slice-types.ensures c.loop-index.index c.index-terms-index.result c.index-types-index.result
-    c.in_ok-found.found c.loop-index-test.true below c.index-terms-index.is c.index-types-index.is c.in_ok-found.ensures
-    (sym c.is_same.ensures ∙ c.if-not-is_same.false) c.loop-index.invariant
+    have_next (type_found (here c.args.scope.now)) (bound_of c.args.around.now) c.args.parts.now c.as_slice-terms.result.now
+    (map (ty_instance c.args.wanted.now.types.now) c.args.wanted.now.tys.now) (map (ty_instance c.args.wanted.now.types.now) c.as_slice-types.result.now)
+    c.as_slice-terms.ensures (ap (map (ty_instance c.args.wanted.now.types.now)) c.as_slice-types.ensures) c.loop-index.index c.index-terms-index.result
+    (ty_instance c.args.wanted.now.types.now c.index-types-index.result) c.in_ok-found.found c.loop-index-test.true
+    (map_below (ty_instance c.args.wanted.now.types.now) c.as_slice-types.result.now c.loop-index.index below) c.index-terms-index.is
+    (item_map (ty_instance c.args.wanted.now.types.now) c.as_slice-types.result.now c.loop-index.index c.index-types-index.result below
+    c.index-types-index.is) c.in_ok-found.ensures (sym c.is_instance.ensures ∙ c.if-not-is_instance.false)
+    c.loop-index.invariant
 
 pub have_types-returns : goal.have_types-returns
 have_types-returns t c =
     let over : length c.as_slice-types.result.now ≤ c.loop-index.index = rw (← c.if-terms-types.false) c.loop-index-test.false in
-    have_end (type_found (here c.args.scope.now)) (bound_of c.args.around.now) c.args.parts.now c.as_slice-terms.result.now c.args.wanted.now
-    c.as_slice-types.result.now c.as_slice-terms.ensures c.as_slice-types.ensures c.loop-index.index c.loop-index-test.false over c.loop-index.invariant
+    have_end (type_found (here c.args.scope.now)) (bound_of c.args.around.now) c.args.parts.now c.as_slice-terms.result.now
+    (map (ty_instance c.args.wanted.now.types.now) c.args.wanted.now.tys.now) (map (ty_instance c.args.wanted.now.types.now) c.as_slice-types.result.now)
+    c.as_slice-terms.ensures (ap (map (ty_instance c.args.wanted.now.types.now)) c.as_slice-types.ensures) c.loop-index.index c.loop-index-test.false
+    (map_over (ty_instance c.args.wanted.now.types.now) c.as_slice-types.result.now c.loop-index.index over) c.loop-index.invariant
 
 pub arms_type-loop-index-init : goal.arms_type-loop-index-init
 arms_type-loop-index-init t c = refl
