@@ -3,15 +3,19 @@ ghost use Rattle.px_base.specs.Lawful.{IsLawful};
 ghost use Rattle.px_terms.specs.TypedPrograms.{IsTyped};
 ghost use Rattle.px_terms.specs.Descent.{AllDescend};
 ghost use Rattle.px_terms.specs.Numbered.{HasNumbers};
+ghost use Rattle.px_terms.specs.declared.program.Program.{Program as AnyProgram};
+ghost use Rattle.px_descent.specs.Checked.{ExtensionsHaveValues};
 ghost use Rattle.px_descent.specs.Ends.{NamesFirst};
 
 use crate::descent::check_descent;
 use crate::end::NoDescent;
 use px_terms::Program;
+use px_totality::{each_call_has_value, each_function_has_value, each_term_has_value};
 use std::marker::Model;
 
-/// A program that is typed and descends, whose names are lawful and whose numbers fit. Contracts see it as the program;
-/// whoever holds one knows all that of it.
+/// A program that is typed and descends, whose names are lawful and whose numbers fit. So in every extension of it each call
+/// and each typed term has exactly one value with one count. Contracts see it as the program; whoever holds one knows all
+/// that of it.
 #[derive(Drop)]
 pub struct Checked {
     program: Program,
@@ -31,6 +35,15 @@ impl Model for Checked {
     ghost invariant = { λ c. IsChecked c.program };
 }
 
+/// In every extension of a program each call and each typed term has exactly one value with one count.
+fn extensions_have_values()
+    ensures { (P : AnyProgram) → ExtensionsHaveValues P }
+{
+    each_call_has_value();
+    each_function_has_value();
+    each_term_has_value();
+}
+
 impl Checked {
     ghost use Rattle.px_descent.specs.Checked.{IsChecked};
 
@@ -44,6 +57,7 @@ impl Checked {
         ensures first { IfErr result (NamesFirst program) }
         ensures only { AllDescend program → IsOk result }
     {
+        extensions_have_values();
         check_descent(&program)?;
         Ok(Checked { program })
     }

@@ -74,6 +74,6 @@ pub(crate) fn take_program(checked: &Checked) -> Result<(), End>
 pub(crate) fn accept(alloc: Global, checked: &Checked, bytes: &Bytes) -> Result<u32, End>
     ensures { Accepts checked.now bytes.now result }
 {
-    let accepted = replay_text(alloc, checked.program(), bytes.as_slice())?;
+    let accepted = replay_text(alloc, checked, bytes.as_slice())?;
     Ok(accepted.obligations)
 }

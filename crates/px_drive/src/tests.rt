@@ -42,6 +42,48 @@ const WHOLE: &[u8] =
 same 0\ncase 1\nstep a0l / unfold\nstep a0l / select\nstep a0r / unfold\nstep a0r / select\nsame 0\nsame 0\n\
 goal 1\ncase 0\nstep a0l / unfold\nstep a0l / select\nsame 0\nstep a0l / unfold\nstep a0l / select\nsame 0\n";
 
+/// The derivation that `or` is idempotent.
+const IDEM: &[u8] =
+    b"goal 0\ncase 0\nstep a0l / unfold\nstep a0l / select\nsame 0\nstep a0l / unfold\nstep a0l / select\nsame 0\n";
+
+/// The derivation that `or` is associative.
+const ASSOC: &[u8] =
+    b"goal 0\ncase 0\nstep a0l / unfold\nstep a0l /0 unfold\nstep a0l /0 select\nstep a0r / unfold\nstep a0r / select\n\
+step a0r / unfold\nsame 0\nstep a0l / unfold\nstep a0l /0 unfold\nstep a0l /0 select\nstep a0l / select\n\
+step a0r / unfold\nstep a0r / select\nsame 0\n";
+
+/// The derivation that `or` gives one of the two, where each case closes by another alternative.
+const SEL: &[u8] =
+    b"goal 0\ncase 0\nstep a1l / unfold\nstep a1l / select\nsame 1\nstep a0l / unfold\nstep a0l / select\nsame 0\n";
+
+/// The properties of `or`, a text, and what is printed, where it is accepted.
+const DERIVATIONS: [(&str, &[u8], &str); 13] = [
+    (" with idem", IDEM, "accepted 1\n"),
+    ("", b"", "accepted 0\n"),
+    (" with assoc", ASSOC, "accepted 1\n"),
+    (" with sel", SEL, "accepted 1\n"),
+    // Unfolded once, above the cases.
+    (
+        " with idem",
+        b"goal 0\nstep a0l / unfold\ncase 0\nstep a0l / select\nsame 0\nstep a0l / select\nsame 0\n",
+        "accepted 1\n",
+    ),
+    (" with comm, idem", IDEM, ""),
+    (" with idem", WHOLE, ""),
+    ("", b"\n", ""),
+    (" with assoc", IDEM, ""),
+    // A premise is a fact, and what is to be shown is not among the facts.
+    (" with sym", b"goal 0\nsame 0\n", ""),
+    // The sides differ; there is no such variable; the case of `True` is missing.
+    (" with idem", b"goal 0\nsame 0\n", ""),
+    (" with idem", b"goal 0\ncase 1\nsame 0\nsame 0\n", ""),
+    (
+        " with idem",
+        b"goal 0\ncase 0\nstep a0l / unfold\nstep a0l / select\nsame 0\n",
+        "",
+    ),
+];
+
 /// Lines as a text, each ended by a line feed.
 fn text_of(alloc: Global, lines: &[&[u8]]) -> Result<Bytes, Fail> {
     let mut text = Bytes::new(alloc);
@@ -303,6 +345,26 @@ fn each_call_has_its_end(rt: HostRuntime) -> Result<(), Fail> {
     for (program, line) in REFUSED {
         expect(&rt, rt.alloc(), &Call { program, ..CHECK }, 3, "", line)?;
         expect(&rt, rt.alloc(), &Call { program, ..REPLAY }, 3, "", line)?;
+    }
+    Ok(())
+}
+
+#[test]
+fn derivations_of_or_are_replayed(rt: HostRuntime) -> Result<(), Fail> {
+    let alloc = rt.alloc();
+    for (with, derivation, printed) in DERIVATIONS {
+        let program = format!(in alloc; "def or(a: Bool, b: Bool): Bool{with} {{ match a {{ False => b, True => True }} }}")?;
+        let call = Call {
+            program: program.as_bytes(),
+            derivation,
+            ..REPLAY
+        };
+        let (wanted, told) = if printed.is_empty() {
+            (5, "rejected\n")
+        } else {
+            (0, "")
+        };
+        expect(&rt, alloc, &call, wanted, printed, told)?;
     }
     Ok(())
 }

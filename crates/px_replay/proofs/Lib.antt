@@ -1,4 +1,5 @@
 pub mod Closings
+pub mod Counted
 pub mod Decimals
 pub mod Lists
 pub mod Numbers

@@ -3,6 +3,9 @@ use Rattle.std.specs.Prelude.{◌≡◌, ℕ, List, [], ◌∷◌, ◌++◌, len
 use Rattle.px_terms.specs.declared.types.Ty.{Ty}
 use Rattle.px_terms.specs.declared.term.Term.{Term}
 use Rattle.px_terms.specs.declared.clause.Equation.{Equation}
+use Rattle.px_terms.specs.Head.TheVariants.{Def}
+use Rattle.px_terms.specs.declared.program.Declared.{Declared}
+use Rattle.px_terms.specs.declared.program.Declared.TheVariants as declared
 use Rattle.px_terms.specs.declared.program.Program.{Program}
 use Rattle.px_terms.specs.declared.sequent.Sequent.{Sequent}
 use Rattle.px_terms.specs.declared.row.Side.{Side}
@@ -10,12 +13,18 @@ use Rattle.px_terms.specs.declared.row.Kind.{Kind}
 use Rattle.px_terms.specs.declared.row.Row.{Row}
 use Rattle.px_terms.specs.declared.row.Row.TheVariants as row
 use Rattle.px_terms.specs.TreeEdits.{equations_put}
+use Rattle.px_props.specs.Signatures.{IsCounted}
 use Rattle.px_replay.specs.declared.opened.Open.{Open}
 use Rattle.px_terms.specs.Sequents.{side_of, IsWithinLimits, frame_put}
 use Rattle.px_terms.specs.Steps.{Step}
 use Rattle.px_terms.specs.Derivations.{Opens, Leads, Tree, DerivesObligation, rows_of}
 use Rattle.px_terms.specs.Spelling.{line_of, lines_of, rows_from}
 use Rattle.px_terms.specs.Readable.{IsReadable}
+
+-- the definition of a declared property takes no more than words of 32 bits count
+abbrev pub IsDeclaredCounted : Program → Declared → Type 0
+IsDeclaredCounted P (declared.Property n p) = IsCounted P [] (Def n)
+IsDeclaredCounted P (declared.Lemma n) = Unit {0}
 
 -- the sequent with a term put in for a variable, and these variables
 abbrev pub put_case : Sequent → List (Option Ty) → ℕ → ℕ → Term → Sequent

@@ -1,12 +1,12 @@
 //! The clauses of the obligations: of properties of definitions, and of lemmas; and the first sequent of each.
 
-ghost use Rattle.std.specs.Prelude.{◌≡◌, ◌↔◌, ◌^◌, ◌<◌, [], IsTrue, IfOk, IsOkUnless, length};
+ghost use Rattle.std.specs.Prelude.{◌≡◌, ◌^◌, ◌<◌, [], IfOk, IsOkUnless, length};
 ghost use Rattle.px_terms.specs.declared.clause.Clause.{Clause};
 ghost use Rattle.px_terms.specs.Obligations as obligations;
 ghost use Rattle.px_terms.specs.Sequents.{first_sequent};
 ghost use Rattle.px_terms.specs.Typing.{live};
-ghost use Rattle.px_terms.specs.Numbered.{HasNumberedVariables};
 ghost use Rattle.px_props.specs.Signatures.{IsCounted};
+ghost use Rattle.px_replay.specs.Replays.{IsDeclaredCounted};
 
 use crate::replay::ReplayEnd;
 use px_terms::{
@@ -23,8 +23,9 @@ pub(crate) fn clause_of(
     program: &Program,
     declared: Declared,
 ) -> Result<Clause, ReplayEnd>
+    requires { IsDeclaredCounted program.now declared }
     ensures clause { IfOk result (obligations.IsDeclaredClause program.now declared) }
-    ensures only { (clause : Clause) → obligations.IsDeclaredClause program.now declared clause → HasNumberedVariables clause → IsOkUnless result ReplayEnd.NoMemory }
+    ensures only { (clause : Clause) → obligations.IsDeclaredClause program.now declared clause → IsOkUnless result ReplayEnd.NoMemory }
 {
     match declared {
         Declared::Property { def, prop } => property_clause(alloc, program, def, prop),
@@ -33,7 +34,7 @@ pub(crate) fn clause_of(
 }
 
 /// The clause of a lemma. Rejected where there is no such lemma.
-fn lemma_clause(alloc: Global, program: &Program, number: u32) -> Result<Clause, ReplayEnd>
+pub(crate) fn lemma_clause(alloc: Global, program: &Program, number: u32) -> Result<Clause, ReplayEnd>
     ensures clause { IfOk result (obligations.IsDeclaredClause program.now (Declared.Lemma number)) }
     ensures only { (clause : Clause) → obligations.IsDeclaredClause program.now (Declared.Lemma number) clause → IsOkUnless result ReplayEnd.NoMemory }
 {
@@ -65,26 +66,11 @@ fn property_clause(
     number: u32,
     prop: Prop,
 ) -> Result<Clause, ReplayEnd>
+    requires { IsCounted program.now [] (Head.Def number) }
     ensures clause { IfOk result (obligations.IsDeclaredClause program.now (Declared.Property number prop)) }
     ensures only { (clause : Clause) → obligations.IsDeclaredClause program.now (Declared.Property number prop) clause → IsOkUnless result ReplayEnd.NoMemory }
 {
-    if !is_counted(program, number) {
-        // A clause of 2^32 - 1 variables or functions and more is taken for one that no memory holds.
-        return Err(ReplayEnd::NoMemory);
-    }
     Ok(px_props::clause_of(alloc, program, Head::Def(number), &[], prop)?)
-}
-
-/// The definition takes no more than words of 32 bits count, or there is none.
-fn is_counted(program: &Program, number: u32) -> bool
-    ensures { IsTrue result ↔ IsCounted program.now [] (Head.Def number) }
-{
-    match at(program.defs.as_slice(), number as usize) {
-        Some(def) => {
-            def.params.len() <= u32::MAX as usize && def.funs.len() <= u32::MAX as usize
-        }
-        None => true,
-    }
 }
 
 /// The first sequent of an obligation without induction. Rejected where its variables have no numbers.

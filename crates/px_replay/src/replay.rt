@@ -8,6 +8,7 @@ ghost use Rattle.px_replay.specs.declared.opened.Open.{Open};
 ghost use Rattle.px_terms.specs.Obligations.{AllHold};
 ghost use Rattle.px_terms.specs.Plain.{IsPlainProgram};
 ghost use Rattle.px_terms.specs.Spelling.{IsDerivationText, line_of};
+ghost use Rattle.px_terms.specs.TypedPrograms.{IsTyped};
 ghost use Rattle.px_terms.specs.Numbered.{HasNumbers};
 ghost use Rattle.px_replay.specs.Replays.{IsRightlyMarked, HasReplayed, ReplaysRow, ReplaysObligation};
 
@@ -15,6 +16,7 @@ use crate::clauses::{clause_of, open_obligation};
 use crate::lines::{RowEnd, read_row};
 use crate::opened::Open;
 use crate::rows::open_sequent;
+use px_descent::Checked;
 use px_props::ClauseEnd;
 use px_soundness::{derivations_are_sound, one_clause, one_opening, stack_is_tree};
 use px_terms::{Declared, NoMemory, Program, Row};
@@ -75,15 +77,30 @@ pub struct Accepted {
 }
 
 /// Replays the text of a derivation of the program: a header and the rows of a tree for each obligation, in
-/// order, and nothing more. Rejected exactly where the text is no derivation, of a program whose variables and
-/// constructors can be numbered. It keeps the open sequents of one tree on a stack, and looks at each byte
-/// once.
-pub fn replay_text(alloc: Global, program: &Program, text: &[u8]) -> Result<Accepted, ReplayEnd>
+/// order, and nothing more. Rejected exactly where the text is no derivation. It keeps the open sequents of one
+/// tree on a stack, and looks at each byte once.
+pub fn replay_text(alloc: Global, checked: &Checked, text: &[u8]) -> Result<Accepted, ReplayEnd>
+    ensures accepted { IfOk result (λ _. IsDerivationText checked.now text.now) }
+    ensures count { IfOk result (λ accepted. accepted.obligations ≡ length checked.now.declared) }
+    // Besides want of memory, each derivation is accepted: what is rejected is none.
+    ensures rejected { IsDerivationText checked.now text.now → IsOkUnless result ReplayEnd.NoMemory }
+    // What is accepted is true, where the program is one over truth values.
+    ensures holds { IfOk result (λ _. IsPlainProgram checked.now → AllHold checked.now) }
+{
+    replay_program(alloc, checked.program(), text)
+}
+
+/// The same of a program that is typed and whose parts can be numbered.
+fn replay_program(
+    alloc: Global,
+    program: &Program,
+    text: &[u8],
+) -> Result<Accepted, ReplayEnd>
+    requires typed { IsTyped program.now }
+    requires numbered { HasNumbers program.now }
     ensures accepted { IfOk result (λ _. IsDerivationText program.now text.now) }
     ensures count { IfOk result (λ accepted. accepted.obligations ≡ length program.now.declared) }
-    // Besides want of memory, each derivation is accepted: what is rejected is none.
-    ensures rejected { HasNumbers program.now → IsDerivationText program.now text.now → IsOkUnless result ReplayEnd.NoMemory }
-    // What is accepted is true, where the program is one over truth values.
+    ensures rejected { IsDerivationText program.now text.now → IsOkUnless result ReplayEnd.NoMemory }
     ensures holds { IfOk result (λ _. IsPlainProgram program.now → AllHold program.now) }
 {
     derivations_are_sound();
@@ -109,9 +126,11 @@ fn replay_obligation<'a>(
     declared: Declared,
     text: &'a [u8],
 ) -> Result<&'a [u8], ReplayEnd>
-    requires { slice_get program.now.declared number ≡ Some declared }
+    requires typed { IsTyped program.now }
+    requires numbered { HasNumbers program.now }
+    requires stands { slice_get program.now.declared number ≡ Some declared }
     ensures replays { IfOk result (λ rest. ReplaysObligation program.now number text.now rest.now) }
-    ensures only { HasNumbers program.now → (rest : List ℕ) → ReplaysObligation program.now number text.now rest → MatchResult result (λ found. found.now ≡ rest) (λ end. end ≡ ReplayEnd.NoMemory) }
+    ensures only { (rest : List ℕ) → ReplaysObligation program.now number text.now rest → MatchResult result (λ found. found.now ≡ rest) (λ end. end ≡ ReplayEnd.NoMemory) }
 {
     stack_is_tree();
     one_clause();
@@ -143,7 +162,7 @@ fn is_header(row: &Row, number: u32) -> bool
 }
 
 /// Replays rows until nothing is open any more, and answers the text after them.
-fn replay_tree<'a>(
+pub(crate) fn replay_tree<'a>(
     alloc: Global,
     program: &Program,
     number: u32,

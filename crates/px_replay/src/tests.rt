@@ -1,72 +1,15 @@
-use crate::{Accepted, ReplayEnd, replay_text};
+//! Rows at the limits of sequents, which no text that is read has yet. All else is tested by the calls of the program.
+
+use crate::ReplayEnd;
+use crate::clauses::{lemma_clause, open_obligation};
+use crate::opened::Open;
+use crate::replay::replay_tree;
 use px_terms::{
-    ConDef, DataDef, Declared, Def, Equation, EquationList, Fun, Head, Lemma, Names, Program, Prop,
-    Term, Ty,
+    ConDef, DataDef, Def, Equation, EquationList, Fun, Head, Lemma, Names, Program, Term, Ty,
 };
 use sqlite_items::{Boxed, Items};
 use std::alloc::{AllocError, Global};
 use std::test::Fail;
-
-/// The derivation that `or` is commutative and idempotent.
-const BOTH: &[u8] =
-    b"goal 0\ncase 0\ncase 1\nsame 0\nstep a0l / unfold\nstep a0l / select\nstep a0r / unfold\nstep a0r / select\n\
-same 0\ncase 1\nstep a0l / unfold\nstep a0l / select\nstep a0r / unfold\nstep a0r / select\nsame 0\nsame 0\n\
-goal 1\ncase 0\nstep a0l / unfold\nstep a0l / select\nsame 0\nstep a0l / unfold\nstep a0l / select\nsame 0\n";
-
-/// The derivation that `or` is idempotent.
-const IDEM: &[u8] =
-    b"goal 0\ncase 0\nstep a0l / unfold\nstep a0l / select\nsame 0\nstep a0l / unfold\nstep a0l / select\nsame 0\n";
-
-/// The derivation that `or` is associative.
-const ASSOC: &[u8] =
-    b"goal 0\ncase 0\nstep a0l / unfold\nstep a0l /0 unfold\nstep a0l /0 select\nstep a0r / unfold\nstep a0r / select\n\
-step a0r / unfold\nsame 0\nstep a0l / unfold\nstep a0l /0 unfold\nstep a0l /0 select\nstep a0l / select\n\
-step a0r / unfold\nstep a0r / select\nsame 0\n";
-
-/// The derivation that `or` gives one of the two, where each case closes by another alternative.
-const SEL: &[u8] =
-    b"goal 0\ncase 0\nstep a1l / unfold\nstep a1l / select\nsame 1\nstep a0l / unfold\nstep a0l / select\nsame 0\n";
-
-const REJECTED: Result<Accepted, ReplayEnd> = Err(ReplayEnd::Rejected);
-
-/// Properties of `or`, a text, and what replay answers.
-const TEXTS: [(&[Prop], &[u8], Result<Accepted, ReplayEnd>); 15] = [
-    (
-        &[Prop::Comm, Prop::Idem],
-        BOTH,
-        Ok(Accepted { obligations: 2 }),
-    ),
-    (&[Prop::Idem], IDEM, Ok(Accepted { obligations: 1 })),
-    (&[], b"", Ok(Accepted { obligations: 0 })),
-    (&[Prop::Assoc], ASSOC, Ok(Accepted { obligations: 1 })),
-    (&[Prop::Sel], SEL, Ok(Accepted { obligations: 1 })),
-    // Unfolded once, above the cases.
-    (
-        &[Prop::Idem],
-        b"goal 0\nstep a0l / unfold\ncase 0\nstep a0l / select\nsame 0\nstep a0l / select\nsame 0\n",
-        Ok(Accepted { obligations: 1 }),
-    ),
-    (&[Prop::Comm, Prop::Idem], IDEM, REJECTED),
-    (&[Prop::Idem], BOTH, REJECTED),
-    (&[], b"\n", REJECTED),
-    (&[Prop::Assoc], IDEM, REJECTED),
-    // A premise is a fact, and what is to be shown is not among the facts.
-    (&[Prop::Sym], b"goal 0\nsame 0\n", REJECTED),
-    // The sides differ; there is no such variable; the case of `True` is missing.
-    (&[Prop::Idem], b"goal 0\nsame 0\n", REJECTED),
-    (&[Prop::Idem], b"goal 0\ncase 1\nsame 0\nsame 0\n", REJECTED),
-    (
-        &[Prop::Idem],
-        b"goal 0\ncase 0\nstep a0l / unfold\nstep a0l / select\nsame 0\n",
-        REJECTED,
-    ),
-    // A leading zero.
-    (
-        &[Prop::Idem],
-        b"goal 0\nstep a0l / unfold\ncase 0\nstep a0l / select\nsame 0\nstep a0l / select\nsame 00\n",
-        REJECTED,
-    ),
-];
 
 fn bools(alloc: Global, count: u32) -> Result<Items<Ty>, AllocError> {
     let mut types = Items::new(alloc);
@@ -111,12 +54,8 @@ fn or_definition(alloc: Global) -> Result<Def, AllocError> {
     })
 }
 
-/// The program of `or` with these lemmas and obligations, without names, at which no replay looks.
-fn or_program(
-    alloc: Global,
-    lemmas: Items<Lemma>,
-    declared: Items<Declared>,
-) -> Result<Program, AllocError> {
+/// The program of `or` with these lemmas, without obligations and names, at which no row looks.
+fn or_program(alloc: Global, lemmas: Items<Lemma>) -> Result<Program, AllocError> {
     let mut cons = Items::new(alloc);
     for _ in 0..2 {
         cons.push(ConDef {
@@ -131,7 +70,7 @@ fn or_program(
         datatypes,
         defs,
         lemmas,
-        declared,
+        declared: Items::new(alloc),
         replicas: Items::new(alloc),
         names: Names {
             datatypes: Items::new(alloc),
@@ -175,61 +114,48 @@ fn lemma_program(alloc: Global, variables: u32, depth: u32) -> Result<Program, A
             right: nested(alloc, depth)?,
         },
     })?;
-    let mut declared = Items::new(alloc);
-    declared.push(Declared::Lemma { lemma: 0 })?;
-    or_program(alloc, lemmas, declared)
+    or_program(alloc, lemmas)
 }
 
-/// The text that looks at the cases of so many variables, and then finds the sides to be one term.
+/// The rows that look at the cases of so many variables, and then find the sides to be one term.
 fn all_cases(alloc: Global, variables: u32) -> Result<String, AllocError> {
     let mut text = String::from_str(alloc, "same 0\n")?;
     for variable in (0..variables).rev() {
         text = format!(in alloc; "case {variable}\n{text}{text}")?;
     }
-    format!(in alloc; "goal 0\n{text}")
+    Ok(text)
 }
 
-/// The text that unfolds the innermost call of either side, where calls are nested so deep.
+/// The rows that unfold the innermost call of either side, where calls are nested so deep.
 fn innermost_unfolded(alloc: Global, depth: u32) -> Result<String, AllocError> {
     let mut path = String::new(alloc);
     for _ in 2..depth {
         path.push_str("/0")?;
     }
-    format!(in alloc; "goal 0\nstep a0l {path} unfold\nstep a0r {path} unfold\nsame 0\n")
+    format!(in alloc; "step a0l {path} unfold\nstep a0r {path} unfold\nsame 0\n")
+}
+
+/// Whether the rows of the program's lemma leave nothing open, and nothing of the text.
+fn is_replayed(alloc: Global, program: &Program, rows: &[u8]) -> Result<bool, ReplayEnd> {
+    let first = open_obligation(alloc, lemma_clause(alloc, program, 0)?)?;
+    let rest = replay_tree(alloc, program, 0, Open::first(first), rows)?;
+    Ok(rest.is_empty())
 }
 
 #[test]
-fn a_text_is_accepted_or_rejected(rt: HostRuntime) -> Result<(), Fail> {
-    let alloc = rt.alloc();
-    for (place, (props, text, answer)) in TEXTS.into_iter().enumerate() {
-        let mut declared = Items::new(alloc);
-        for prop in props {
-            declared.push(Declared::Property {
-                def: 0,
-                prop: *prop,
-            })?;
-        }
-        let program = or_program(alloc, Items::new(alloc), declared)?;
-        assert_eq!(rt; replay_text(alloc, &program, text), answer, "text {place}");
-    }
-    Ok(())
-}
-
-#[test]
-fn long_and_deep_texts_are_accepted_up_to_the_limits(rt: HostRuntime) -> Result<(), Fail> {
+fn long_and_deep_rows_are_taken_up_to_the_limits(rt: HostRuntime) -> Result<(), Fail> {
     let alloc = rt.alloc();
     let long = all_cases(alloc, 10)?;
     let deepest = innermost_unfolded(alloc, 400)?;
     let deeper = innermost_unfolded(alloc, 401)?;
-    let one = Ok(Accepted { obligations: 1 });
     for (depth, text, answer) in [
-        (20, &long, one),
-        (400, &deepest, one),
-        (401, &deeper, REJECTED),
+        (20, &long, Ok(true)),
+        (400, &deepest, Ok(true)),
+        (401, &deeper, Err(ReplayEnd::Rejected)),
     ] {
         let program = lemma_program(alloc, 10, depth)?;
         assert_eq!(rt;
-            replay_text(alloc, &program, text.as_bytes()),
+            is_replayed(alloc, &program, text.as_bytes()),
             answer,
             "depth {depth}"
         );

@@ -25,31 +25,43 @@ pub record ExactlyOne (Q : Program) (T : Ty) (IsGiven : Value → ℕ → Type 0
   pub in_type : IsIn Q T value
   pub no_other : (v : Value) (c : ℕ) → IsGiven v c → (v ≡ value) × (c ≡ count)
 
--- a definition on functions that fit and values of its parameters' types gives exactly one value with one count, at all ground types
-abbrev pub EachCallHasValue : Type 0
-EachCallHasValue =
-    (Q : Program) → IsWellFounded Q → (n : ℕ) (D : definition.Def) → slice_get Q.defs n ≡ Some D →
+-- in Q a definition on functions that fit and values of its parameters' types gives exactly one value with one count, at all ground types
+abbrev pub CallsHaveValue : Program → Type 0
+CallsHaveValue Q =
+    (n : ℕ) (D : definition.Def) → slice_get Q.defs n ≡ Some D →
     (types : List Ty) → length types ≡ D.tparams → AreTypes Q 0 types → (funs : List Fun) → FitTypes Q types D.funs funs →
     (vs : List Value) → AreIn Q (tys_instance types D.params) vs →
     ExactlyOne Q (ty_instance types D.result) (Gives Q (record { head = Def n; types = types }) funs vs)
 
--- a function that fits a type, a built-in too, gives exactly one value with one count on values of its parameters' types
-abbrev pub EachFunctionHasValue : Type 0
-EachFunctionHasValue =
-    (Q : Program) → IsWellFounded Q → (types : List Ty) (F : FnType) (f : Fun) → FitsType Q types F f →
+-- so in every program that is typed and descends
+abbrev pub EachCallHasValue : Type 0
+EachCallHasValue = (Q : Program) → IsWellFounded Q → CallsHaveValue Q
+
+-- in Q a function that fits a type, a built-in too, gives exactly one value with one count on values of its parameters' types
+abbrev pub FunctionsHaveValue : Program → Type 0
+FunctionsHaveValue Q =
+    (types : List Ty) (F : FnType) (f : Fun) → FitsType Q types F f →
     (vs : List Value) → AreIn Q (tys_instance types F.params) vs → ExactlyOne Q (ty_instance types F.result) (Gives Q f [] vs)
+
+-- so in every program that is typed and descends
+abbrev pub EachFunctionHasValue : Type 0
+EachFunctionHasValue = (Q : Program) → IsWellFounded Q → FunctionsHaveValue Q
 
 -- The types of a context's variables are types.
 pub record IsContext (Q : Program) (context : Context) : Type 0 where
   pub vars : (n : ℕ) (T : Ty) → slice_get context.vars n ≡ Some (Some T) → IsType Q context.tparams T
   pub results : (i : ℕ) (F : FnType) → slice_get context.funs i ≡ Some F → IsType Q context.tparams F.result
 
--- a typed term has exactly one value with one count, at all ground types, functions that fit and values that fit its variables
-abbrev pub EachTermHasValue : Type 0
-EachTermHasValue =
-    (Q : Program) → IsWellFounded Q → (place : Place) (context : Context) → IsContext Q context → (t : Term) (T : Ty) → HasType Q place context t T →
+-- in Q a typed term has exactly one value with one count, at all ground types, functions that fit and values that fit its variables
+abbrev pub TermsHaveValue : Program → Type 0
+TermsHaveValue Q =
+    (place : Place) (context : Context) → IsContext Q context → (t : Term) (T : Ty) → HasType Q place context t T →
     (types : List Ty) → length types ≡ context.tparams → AreTypes Q 0 types → (funs : List Fun) → FitTypes Q types context.funs funs →
     (rho : List Value) → FitValues Q types context.vars rho → ExactlyOne Q (ty_instance types T) (Means Q types funs rho t)
+
+-- so in every program that is typed and descends
+abbrev pub EachTermHasValue : Type 0
+EachTermHasValue = (Q : Program) → IsWellFounded Q → TermsHaveValue Q
 
 -- A program that is typed and descends is an extension of itself, and an extension of an extension is one.
 pub record ExtensionsCompose : Type 0 where
