@@ -1,5 +1,5 @@
 -- What is found of a term, by its outermost part.
-use Rattle.std.proofs.Common.{◌≡◌, ℕ, ◌+◌, ◌<◌, ◌^◌, List, [], Option, None, Some, refl, sym, ap, ◌∙◌, subst, slice_get, reverse}
+use Rattle.std.proofs.Common.{◌≡◌, ℕ, ◌+◌, ◌<◌, ◌^◌, List, [], Option, None, Some, sym, ap, ◌∙◌, subst, slice_get, reverse}
 use Rattle.std.specs.Option.{option_map}
 use Rattle.px_terms.specs.declared.types.Ty.{Ty}
 use Rattle.px_terms.specs.declared.types.Fun.{Fun}
@@ -16,7 +16,7 @@ use Rattle.px_evaluate.specs.declared.scope.Callee.{Callee}
 use Rattle.px_evaluate.specs.Nesting.{MeanAllWithin}
 use Rattle.px_evaluate.specs.Evaluating.{IsFound}
 use Rattle.px_evaluate.specs.Finding.{Finds, IsAtHand, on_fields}
-use Rattle.px_evaluate.proofs.Rules.{out_of_fuel, free_found, bound_found, lit_found, con_found, call_of_nothing}
+use Rattle.px_evaluate.proofs.Rules.{free_found, bound_found, lit_found, con_found, call_of_nothing}
 
 -- at other lists that are equal
 pub evaluated_at : (n : ℕ) (P : Program) (types : List Ty) (funs : List Fun) (rho inner : List Value) (t : Term) (r : Option Evaluated) → types ≡ [] → funs ≡ [] → inner ≡ [] →

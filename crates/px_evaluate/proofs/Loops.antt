@@ -1,7 +1,6 @@
 -- What has been found of the first items, and what is left to be found.
-use Rattle.std.proofs.Common.{◌≡◌, ℕ, ◌+◌, ◌<◌, ◌≤◌, ◌^◌, max, List, [], ◌∷◌, ◌++◌, length, get_or, drop, Option, None, Some, refl, sym, ap, ◌∙◌, subst, arith}
+use Rattle.std.proofs.Common.{◌≡◌, ℕ, ◌+◌, ◌<◌, ◌≤◌, ◌^◌, List, [], ◌∷◌, ◌++◌, length, get_or, drop, Option, None, Some, refl, sym, ap, ◌∙◌, subst, arith}
 use Rattle.std.proofs.lemmas.List.{append_assoc, append-nil, drop_more}
-use Rattle.std.proofs.Math.Nat.{zero-add}
 use Rattle.px_terms.specs.declared.types.Ty.{Ty}
 use Rattle.px_terms.specs.declared.types.Fun.{Fun}
 use Rattle.px_terms.specs.declared.term.Term.{Term, out-Term}
@@ -10,8 +9,7 @@ use Rattle.px_terms.specs.declared.program.Program.{Program}
 use Rattle.px_terms.specs.Meaning.{FunMeans, FunsMean, none, more, meant_function}
 use Rattle.px_evaluate.specs.declared.values.Evaluated.{Evaluated}
 use Rattle.px_evaluate.specs.declared.values.AllEvaluated.{AllEvaluated}
-use Rattle.px_evaluate.specs.declared.scope.Callee.{Callee}
-use Rattle.px_evaluate.specs.Nesting.{nesting, nesting_of_all, MeanAllWithin}
+use Rattle.px_evaluate.specs.Nesting.{MeanAllWithin}
 use Rattle.px_evaluate.specs.Evaluating.{IsFound}
 use Rattle.px_evaluate.specs.Finding.{Finds}
 use Rattle.px_evaluate.proofs.Found.{finds_none, finds_some, found_is, found_same, found_absent, some_is}
@@ -41,14 +39,6 @@ same_all : (x y : AllEvaluated) → x.values ≡ y.values → x.calls ≡ y.call
 same_all x y p q = λ i. record { values = p i; calls = q i }
 
 module _ (n : ℕ) (P : Program) (types : List Ty) (funs : List Fun) (rho inner : List Value) (whole : List Term) where
-  -- before any term
-  pub continues_first : (found : List Value) → found ≡ [] → Continues n P types funs rho inner whole (drop 0 whole) found 0
-  continues_first found is = subst (λ xs. Continues n P types funs rho inner whole (drop 0 whole) xs 0) (sym is) (record {
-    right = λ vs c all. subst (λ k. MeanAllWithin n P types funs rho inner whole vs k) (sym (zero-add c)) all;
-    only = λ vs c all small. record { others = vs; count = c; all = all; is = refl; total = zero-add c };
-    small = omega arith;
-  })
-
   module _ (rest : List Term) (found : List Value) (calls : ℕ) (so_far : Continues n P types funs rho inner whole rest found calls) where
     -- behind all of them
     pub all_found : rest ≡ [] → Finds (Some (record { values = found; calls = calls })) (λ (e : AllEvaluated). MeanAllWithin n P types funs rho inner whole e.values e.calls × (e.calls < 2 ^ 64))
@@ -153,12 +143,6 @@ none_meant types funs [] h = refl
 none_meant types funs (g ∷ gs) h = absurd h
 
 module _ (types : List Ty) (funs whole : List Fun) where
-  pub meant_first : (found : List Fun) → found ≡ [] → MeantOn types funs whole (drop 0 whole) found
-  meant_first found is = subst (λ xs. MeantOn types funs whole (drop 0 whole) xs) (sym is) (record {
-    right = λ gs h. h;
-    only = λ gs h. record { others = gs; mean = h; is = refl };
-  })
-
   module _ (rest found : List Fun) (so_far : MeantOn types funs whole rest found) where
     pub all_meant : rest ≡ [] → Finds (Some found) (FunsMean types funs whole)
     all_meant is = finds_some (FunsMean types funs whole) found
@@ -169,13 +153,6 @@ module _ (types : List Ty) (funs whole : List Fun) where
         left.is ∙ (ap (λ xs. found ++ xs) empty ∙ append-nil found))
 
     module _ (f : Fun) (others : List Fun) (next : rest ≡ f ∷ others) (o : Option Fun) (o_is : o ≡ meant_function types funs f f.head) where
-      pub next_unmeant : o ≡ None → Finds None (FunsMean types funs whole)
-      next_unmeant is = finds_none (FunsMean types funs whole) (λ gs h.
-          let left = so_far.only gs h in
-          let parts = first_meant types funs f others left.others (subst (λ fs. FunsMean types funs fs left.others) next left.mean) in
-          let never : None ≡ Some parts.g = sym is ∙ (o_is ∙ parts.first) in
-          cc)
-
       pub meant_next : (one : Fun) → o ≡ Some one → (now : List Fun) → now ≡ found ++ one ∷ [] → MeantOn types funs whole others now
       meant_next one one_is now now_is = subst (λ xs. MeantOn types funs whole others xs) (sym now_is) (record { right = right; only = only })
         where
@@ -197,24 +174,3 @@ module _ (types : List Ty) (funs whole : List Fun) where
                 mean = parts.mean;
                 is = left.is ∙ (ap (λ xs. found ++ xs) (parts.is ∙ ap (λ x. x ∷ parts.others) same) ∙ sym (append_assoc found (one ∷ []) parts.others));
               }
-
--- the function of a call, and its function arguments
-module _ (types : List Ty) (funs : List Fun) (f : Fun) (fs : List Fun) (o : Option Fun) (o_is : o ≡ meant_function types funs f f.head) where
-  pub callee_unmeant : o ≡ None → Finds None (λ (callee : Callee). FunMeans types funs f callee.fun × FunsMean types funs fs callee.funs)
-  callee_unmeant is = finds_none (λ (callee : Callee). FunMeans types funs f callee.fun × FunsMean types funs fs callee.funs) (λ callee h.
-      let never : None ≡ Some callee.fun = sym is ∙ (o_is ∙ h.0) in
-      cc)
-
-  module _ (p : Option (List Fun)) (finds : Finds p (FunsMean types funs fs)) where
-    pub arguments_unmeant : p ≡ None → Finds None (λ (callee : Callee). FunMeans types funs f callee.fun × FunsMean types funs fs callee.funs)
-    arguments_unmeant is = finds_none (λ (callee : Callee). FunMeans types funs f callee.fun × FunsMean types funs fs callee.funs) (λ callee h.
-        found_absent (FunsMean types funs fs) p callee.funs finds is h.1)
-
-    pub callee_meant : (g : Fun) → o ≡ Some g → (gs : List Fun) → p ≡ Some gs → Finds (Some (record { fun = g; funs = gs })) (λ (callee : Callee). FunMeans types funs f callee.fun × FunsMean types funs fs callee.funs)
-    callee_meant g g_is gs gs_is = finds_some (λ (callee : Callee). FunMeans types funs f callee.fun × FunsMean types funs fs callee.funs) (record { fun = g; funs = gs })
-        (sym o_is ∙ g_is, found_is (FunsMean types funs fs) p gs finds gs_is)
-        (λ callee h.
-        let both : Some callee.fun ≡ Some g = sym h.0 ∙ (sym o_is ∙ g_is) in
-        let function : callee.fun ≡ g = some_is callee.fun g both in
-        let functions : callee.funs ≡ gs = found_same (FunsMean types funs fs) p gs callee.funs finds gs_is h.1 in
-        λ i. record { fun = function i; funs = functions i })

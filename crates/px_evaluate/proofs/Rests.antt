@@ -1,5 +1,5 @@
 -- What a meaning rests on whose terms nest at most one deeper than n.
-use Rattle.std.proofs.Common.{◌≡◌, ℕ, ◌+◌, ◌≤◌, max, Bool, nat_le, ◌==◌, List, [], ◌∷◌, Some, refl, subst, slice_get, arith}
+use Rattle.std.proofs.Common.{◌≡◌, ℕ, ◌+◌, ◌≤◌, Bool, nat_le, ◌==◌, List, [], ◌∷◌, Some, refl, subst, slice_get, arith}
 use Rattle.px_terms.specs.declared.types.Ty.{Ty}
 use Rattle.px_terms.specs.declared.types.Fun.{Fun}
 use Rattle.px_terms.specs.Head.{Head}

@@ -1,17 +1,15 @@
 -- What is found of the parts of a term is what is found of the term, a rule of evaluation each.
-use Rattle.std.proofs.Common.{◌≡◌, ℕ, ◌+◌, ◌<◌, ◌≤◌, ◌^◌, max, Bool, nat_le, ◌==◌, List, [], ◌∷◌, ◌++◌, reverse, Option, None, Some, refl, sym, ap, ◌∙◌, subst, slice_get, arith}
+use Rattle.std.proofs.Common.{◌≡◌, ℕ, ◌+◌, ◌<◌, ◌^◌, Bool, nat_le, ◌==◌, List, [], ◌∷◌, ◌++◌, reverse, Option, None, Some, refl, sym, ap, ◌∙◌, subst, slice_get, arith}
 use Rattle.std.proofs.lemmas.List.{reverse-append}
 use Rattle.std.specs.Option.{option_map}
 use Rattle.px_terms.specs.declared.types.Ty.{Ty}
 use Rattle.px_terms.specs.declared.types.Fun.{Fun}
-use Rattle.px_terms.specs.Head.{Head}
-use Rattle.px_terms.specs.Head.TheVariants.{Def, Wle, Weq, FnVar}
+use Rattle.px_terms.specs.Head.TheVariants.{Def, Wle, Weq}
 use Rattle.px_terms.specs.declared.term.Term.{Term, out-Term}
 use Rattle.px_terms.specs.declared.term.Term.TheOpen.{Term-F}
 use Rattle.px_terms.specs.declared.term.Value.{Value, out-Value}
 use Rattle.px_terms.specs.declared.term.Value.TheVariants as value
 use Rattle.px_terms.specs.declared.term.Value.TheVariants.{outs-Lit, outs-Con}
-use Rattle.px_terms.specs.declared.term.Value.TheOpen.{Value-F}
 use Rattle.px_terms.specs.declared.program.Def as definition
 use Rattle.px_terms.specs.declared.program.Program.{Program}
 use Rattle.px_terms.specs.Programs.{body_of}
@@ -20,7 +18,7 @@ use Rattle.px_terms.specs.Meaning.{at_most, equal}
 use Rattle.px_evaluate.specs.declared.values.Evaluated.{Evaluated}
 use Rattle.px_evaluate.specs.declared.values.AllEvaluated.{AllEvaluated}
 use Rattle.px_evaluate.specs.declared.scope.Callee.{Callee}
-use Rattle.px_evaluate.specs.Nesting.{nesting, nesting_of_all, nesting_of_body, MeansWithin, MeanAllWithin, GivesWithin}
+use Rattle.px_evaluate.specs.Nesting.{MeansWithin, MeanAllWithin, GivesWithin}
 use Rattle.px_evaluate.specs.Evaluating.{IsFound}
 use Rattle.px_evaluate.specs.Finding.{Finds, IsAtHand, Adds, IsGiven, AreWords, on_fields}
 use Rattle.px_evaluate.proofs.Found.{finds_none, finds_some, found_is, found_same, found_absent, finds_alike, OfPart, part_absent, part_found, some_is}
@@ -220,18 +218,7 @@ module _ (n : ℕ) (P : Program) (types : List Ty) (funs : List Fun) (rho inner 
 
 -- What a function gives.
 module _ (n : ℕ) (P : Program) (f : Callee) (inputs : List Value) where
-  -- a function variable gives nothing
-  pub variable_given : (i : ℕ) → f.fun.head ≡ FnVar i → Finds None (IsGiven n P f inputs)
-  variable_given i is = finds_none (IsGiven n P f inputs) (λ x h. gift_rests_on n P f.fun (FnVar i) f.funs inputs x.value x.calls is h.0)
-
   module _ (i : ℕ) (head_is : f.fun.head ≡ Def i) where
-    -- a definition that is missing gives nothing
-    pub missing_given : (o : Option definition.Def) → o ≡ slice_get P.defs i → o ≡ None → Finds None (IsGiven n P f inputs)
-    missing_given o is absent = finds_none (IsGiven n P f inputs) (λ x h.
-        let rests = gift_rests_on n P f.fun (Def i) f.funs inputs x.value x.calls head_is h.0 in
-        let e : None ≡ Some rests.body = ap (option_map (λ (d : definition.Def). d.body)) (sym absent ∙ is) ∙ rests.found in
-        cc)
-
     module _ (d : definition.Def) (d_is : slice_get P.defs i ≡ Some d) where
       body_is : body_of P i ≡ Some d.body
       body_is = ap (option_map (λ (d : definition.Def). d.body)) d_is

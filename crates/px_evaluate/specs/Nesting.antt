@@ -1,5 +1,5 @@
 -- How deep terms nest in a meaning.
-use Rattle.std.specs.Prelude.{◌≡◌, ℕ, ◌+◌, ◌≤◌, max, List}
+use Rattle.std.specs.Prelude.{ℕ, ◌+◌, ◌≤◌, max, List}
 use Rattle.px_terms.specs.declared.types.Ty.{Ty}
 use Rattle.px_terms.specs.declared.types.Fun.{Fun}
 use Rattle.px_terms.specs.declared.term.Term.{Term}

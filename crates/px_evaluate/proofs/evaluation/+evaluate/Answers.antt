@@ -1,6 +1,6 @@
-use Rattle.std.proofs.Common.{◌≡◌, List, ◌++◌, None, Some, reverse, slice_get, refl, sym, ap, ◌∙◌, arith}
+use Rattle.std.proofs.Common.{List, ◌++◌, None, Some, reverse, slice_get, refl, sym, ap, ◌∙◌, arith}
 use Rattle.std.proofs.lemmas.List.{drop_all}
-use Rattle.px_terms.specs.declared.term.Term.{Term, out-Term}
+use Rattle.px_terms.specs.declared.term.Term.{out-Term}
 use Rattle.px_terms.specs.declared.program.Def.{Def}
 use Rattle.px_evaluate.specs.Finding.{IsCallee}
 use Rattle.px_evaluate.proofs.Found.{found_is, ok_alike}
@@ -130,15 +130,15 @@ pub value_of-returns-in-Free : goal.value_of-returns-in-Free
 value_of-returns-in-Free t c =
     let s = c.args.scope.now in
     ok_alike _ _ c.at_hand.result (λ r finds.
-      free_here c.args.fuel c.in-Some.less s.program.now s.types.now s.funs.now s.values.now (reverse s.inner.now) c.args.term.now (omega (arith, c.in-Some.ensures))
-      c.in-Free.number c.in-Free.is _ r c.variable.ensures finds) c.at_hand.ensures
+    free_here c.args.fuel c.in-Some.less s.program.now s.types.now s.funs.now s.values.now (reverse s.inner.now) c.args.term.now (omega (arith, c.in-Some.ensures))
+    c.in-Free.number c.in-Free.is _ r c.variable.ensures finds) c.at_hand.ensures
 
 pub value_of-returns-in-Bound : goal.value_of-returns-in-Bound
 value_of-returns-in-Bound t c =
     let s = c.args.scope.now in
     ok_alike _ _ c.at_hand-in-Bound.result (λ r finds.
-      bound_here c.args.fuel c.in-Some.less s.program.now s.types.now s.funs.now s.values.now (reverse s.inner.now) c.args.term.now (omega (arith, c.in-Some.ensures))
-      c.in-Bound.number c.in-Bound.is _ r c.nearest.ensures finds) c.at_hand-in-Bound.ensures
+    bound_here c.args.fuel c.in-Some.less s.program.now s.types.now s.funs.now s.values.now (reverse s.inner.now) c.args.term.now (omega (arith, c.in-Some.ensures))
+    c.in-Bound.number c.in-Bound.is _ r c.nearest.ensures finds) c.at_hand-in-Bound.ensures
 
 pub value_of-returns-in-Lit : goal.value_of-returns-in-Lit
 value_of-returns-in-Lit t c =
@@ -158,16 +158,16 @@ value_of-returns-in-Some-2 t c =
     let s = c.args.scope.now in
     let callee = found_is (IsCallee s c.in-Call.fun c.as_slice-in-Call.result.now) c.in_ok-callee-in-Call.field-0 c.in-Some-2.callee c.in_ok-callee-in-Call.ensures c.in-Some-2.is in
     ok_alike _ _ c.called.result (λ r finds.
-      call_here c.args.fuel c.in-Some.less s.program.now s.types.now s.funs.now s.values.now (reverse s.inner.now) c.args.term.now (omega (arith, c.in-Some.ensures))
-      c.in-Call.fun c.in-Call.funs c.as_slice-in-Call.result.now c.in-Call.args c.as_slice-in-Call-2.result.now c.in-Call.is c.as_slice-in-Call.ensures
-      c.as_slice-in-Call-2.ensures r finds)
+    call_here c.args.fuel c.in-Some.less s.program.now s.types.now s.funs.now s.values.now (reverse s.inner.now) c.args.term.now (omega (arith, c.in-Some.ensures))
+    c.in-Call.fun c.in-Call.funs c.as_slice-in-Call.result.now c.in-Call.args c.as_slice-in-Call-2.result.now c.in-Call.is c.as_slice-in-Call.ensures
+    c.as_slice-in-Call-2.ensures r finds)
     (c.called.ensures c.in-Call.fun c.as_slice-in-Call.result.now callee.0 callee.1)
 
 pub value_of-returns-in-Match : goal.value_of-returns-in-Match
 value_of-returns-in-Match t c =
     let s = c.args.scope.now in
     ok_alike _ _ c.matched.result (λ r finds.
-      match_here c.args.fuel c.in-Some.less s.program.now s.types.now s.funs.now s.values.now (reverse s.inner.now) c.args.term.now (omega (arith, c.in-Some.ensures))
-      c.in-Match.on c.get.result.now c.in-Match.datatype c.in-Match.types c.in-Match.arms c.as_slice-in-Match.result.now c.in-Match.is c.get.ensures
-      c.as_slice-in-Match.ensures r finds)
+    match_here c.args.fuel c.in-Some.less s.program.now s.types.now s.funs.now s.values.now (reverse s.inner.now) c.args.term.now (omega (arith, c.in-Some.ensures))
+    c.in-Match.on c.get.result.now c.in-Match.datatype c.in-Match.types c.in-Match.arms c.as_slice-in-Match.result.now c.in-Match.is c.get.ensures
+    c.as_slice-in-Match.ensures r finds)
     (c.matched.ensures c.in-Match.datatype c.in-Match.types)

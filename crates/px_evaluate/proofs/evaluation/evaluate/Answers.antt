@@ -1,7 +1,5 @@
-use Rattle.std.proofs.Common.{[], ◌∙◌}
-use Rattle.px_terms.specs.declared.term.Term.{out-Term}
-use Rattle.px_evaluate.specs.Evaluating.{IsEvaluated, IsFound}
-use Rattle.px_evaluate.specs.Finding.{Finds}
+use Rattle.std.proofs.Common.{◌∙◌}
+use Rattle.px_evaluate.specs.Evaluating.{IsEvaluated}
 use Rattle.px_evaluate.proofs.Found.{ok_alike, finds_exactly, finds_nothing}
 use Rattle.px_evaluate.proofs.Layers.{evaluated_at}
 use Rattle.px_evaluate.proofs.evaluation.evaluate.Goals as goal

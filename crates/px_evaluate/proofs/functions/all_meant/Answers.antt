@@ -1,4 +1,4 @@
-use Rattle.std.proofs.Common.{refl, arith}
+use Rattle.std.proofs.Common.{refl}
 use Rattle.std.proofs.lemmas.List.{drop_all}
 use Rattle.px_evaluate.proofs.Loops.{drop_at, all_meant, meant_next}
 use Rattle.px_evaluate.proofs.functions.all_meant.Goals as goal
