@@ -1,89 +1,330 @@
--- What the code of a rule found is what the term means.
-use Rattle.std.proofs.Common.{◌≡◌, ℕ, ◌+◌, ◌<◌, List, [], ◌∷◌, ◌++◌, length, get_or, take, refl, sym, ap, ◌∙◌, subst, Option, None, Some, IfSome, Result, Ok, Err, IfOk, slice_get, arith}
-use Rattle.std.proofs.lemmas.List.{take_more}
+-- What is found of the parts of a term is what is found of the term, a rule of evaluation each.
+use Rattle.std.proofs.Common.{◌≡◌, ℕ, ◌+◌, ◌<◌, ◌^◌, Bool, nat_le, ◌==◌, List, [], ◌∷◌, ◌++◌, reverse, Option, None, Some, refl, sym, ap, ◌∙◌, subst, slice_get, arith}
+use Rattle.std.proofs.lemmas.List.{reverse-append}
 use Rattle.std.specs.Option.{option_map}
 use Rattle.px_terms.specs.declared.types.Ty.{Ty}
 use Rattle.px_terms.specs.declared.types.Fun.{Fun}
-use Rattle.px_terms.specs.Head.TheVariants.{Def}
+use Rattle.px_terms.specs.Head.TheVariants.{Def, Wle, Weq}
 use Rattle.px_terms.specs.declared.term.Term.{Term, out-Term}
-use Rattle.px_terms.specs.declared.term.Term.TheVariants.{Free, Lit, Con, Call, Match, outs-Free, outs-Lit, outs-Con, outs-Call, outs-Match}
 use Rattle.px_terms.specs.declared.term.Term.TheOpen.{Term-F}
 use Rattle.px_terms.specs.declared.term.Value.{Value, out-Value}
 use Rattle.px_terms.specs.declared.term.Value.TheVariants as value
+use Rattle.px_terms.specs.declared.term.Value.TheVariants.{outs-Lit, outs-Con}
 use Rattle.px_terms.specs.declared.program.Def as definition
 use Rattle.px_terms.specs.declared.program.Program.{Program}
-use Rattle.px_terms.specs.Meaning.{Means, MeansOf, MeanAll, Gives, none, more, free, lit, con, choose, call, defined, chosen}
+use Rattle.px_terms.specs.Programs.{body_of}
+use Rattle.px_terms.specs.Meaning.{truth, FunMeans, FunsMean, chosen, bind, free, bound, lit, con, choose, call, defined}
+use Rattle.px_terms.specs.Meaning.{at_most, equal}
+use Rattle.px_evaluate.specs.declared.values.Evaluated.{Evaluated}
+use Rattle.px_evaluate.specs.declared.values.AllEvaluated.{AllEvaluated}
+use Rattle.px_evaluate.specs.declared.scope.Callee.{Callee}
+use Rattle.px_evaluate.specs.Nesting.{MeansWithin, MeanAllWithin, GivesWithin}
+use Rattle.px_evaluate.specs.Evaluating.{IsFound}
+use Rattle.px_evaluate.specs.Finding.{Finds, IsAtHand, Adds, IsGiven, AreWords, on_fields}
+use Rattle.px_evaluate.proofs.Found.{finds_none, finds_some, found_is, found_same, found_absent, finds_alike, OfPart, part_absent, part_found, some_is}
+use Rattle.px_evaluate.proofs.Rests.{rests_on, nowhere, gift_rests_on, WordsRest}
 
--- what is true of the item, where there is one
-pub at_some : {X : Type 0} (P : X → Type 0) (o : Option X) (x : X) → o ≡ Some x → IfSome o P → P x
-at_some P o x is h = subst (λ o. IfSome o P) is h
+-- equal parts make an evaluated value
+same_evaluated : (x y : Evaluated) → x.value ≡ y.value → x.calls ≡ y.calls → x ≡ y
+same_evaluated x y p q = λ i. record { value = p i; calls = q i }
 
--- from two facts of an item a third
-pub both_some : {X : Type 0} {P Q R : X → Type 0} (o : Option X) → IfSome o P → IfSome o Q → ((x : X) → P x → Q x → R x) → IfSome o R
-both_some None p q f = tt
-both_some (Some x) p q f = f x p q
+module _ (n : ℕ) (P : Program) (types : List Ty) (funs : List Fun) (rho inner : List Value) where
+  -- this deep, with this count
+  counted : (y : Term-F Term) (v : Value) (c e : ℕ) → c ≡ e → MeansWithin n P types funs rho inner y v c → MeansWithin n P types funs rho inner y v e
+  counted y v c e is m = subst (λ k. MeansWithin n P types funs rho inner y v k) is m
 
--- from two facts of a result a third
-pub both_ok : {X E : Type 0} {P Q R : X → Type 0} (r : Result X E) → IfOk r P → IfOk r Q → ((x : X) → P x → Q x → R x) → IfOk r R
-both_ok (Ok x) p q f = f x p q
-both_ok (Err e) p q f = tt
+  -- without fuel nothing is found
+  pub out_of_fuel : (y : Term-F Term) → n ≡ 0 → Finds None (IsFound n P types funs rho inner y)
+  out_of_fuel y is = finds_none (IsFound n P types funs rho inner y)
+      (λ e h. nowhere P types funs rho inner y e.value e.calls (subst (λ k. MeansWithin k P types funs rho inner y e.value e.calls) is h.0))
 
-module _ (P : Program) (rho : List Value) where
-  -- a term whose layer is this one means what the layer means
-  by_layer : (t : Term) (y : Term-F Term) (v : Value) (c : ℕ) → out-Term t ≡ y → MeansOf P [] [] rho [] y v c → Means P [] [] rho t v c
-  by_layer t y v c is means = subst (λ z. MeansOf P [] [] rho [] z v c) (sym is) means
+module _ (n : ℕ) (P : Program) (types : List Ty) (funs : List Fun) (rho inner : List Value) where
+  -- a variable has the value that is at hand
+  pub free_found : (i : ℕ) (o : Option Value) (r : Option Evaluated) → o ≡ slice_get rho i → Finds r (IsAtHand o) → Finds r (IsFound (n + 1) P types funs rho inner (Term-F.Free i))
+  free_found i o r is finds = finds_alike (IsAtHand o) (IsFound (n + 1) P types funs rho inner (Term-F.Free i)) r
+      (λ e h. (counted (n + 1) P types funs rho inner (Term-F.Free i) e.value 0 e.calls (sym h.1) (record { means = free (sym is ∙ h.0); nests = omega arith }), omega (arith, h.1)))
+      (λ e h. let rests = rests_on n P types funs rho inner (Term-F.Free i) e.value e.calls h.0 in (is ∙ rests.0, rests.1)) finds
 
-  -- a variable means its value
-  pub free_means : (t : Term) (n : ℕ) (v : Value) (c : ℕ) → t ≡ Free n → slice_get rho n ≡ Some v → c ≡ 0 → Means P [] [] rho t v c
-  free_means t n v c is found zero_calls = by_layer t (Term-F.Free n) v c (ap out-Term is ∙ outs-Free n) (subst (λ k. MeansOf P [] [] rho [] (Term-F.Free n) v k) (sym zero_calls) (free found))
+  pub bound_found : (i : ℕ) (o : Option Value) (r : Option Evaluated) → o ≡ slice_get inner i → Finds r (IsAtHand o) → Finds r (IsFound (n + 1) P types funs rho inner (Term-F.Bound i))
+  bound_found i o r is finds = finds_alike (IsAtHand o) (IsFound (n + 1) P types funs rho inner (Term-F.Bound i)) r
+      (λ e h. (counted (n + 1) P types funs rho inner (Term-F.Bound i) e.value 0 e.calls (sym h.1) (record { means = bound (sym is ∙ h.0); nests = omega arith }), omega (arith, h.1)))
+      (λ e h. let rests = rests_on n P types funs rho inner (Term-F.Bound i) e.value e.calls h.0 in (is ∙ rests.0, rests.1)) finds
 
-  -- a word means itself
-  pub lit_means : (t : Term) (w : ℕ) (v : Value) → t ≡ Lit w → v ≡ value.Lit w → Means P [] [] rho t v 0
-  lit_means t w v is value_is = by_layer t (Term-F.Lit w) v 0 (ap out-Term is ∙ outs-Lit w) (lit value_is)
+  -- a word has itself
+  pub lit_found : (w : ℕ) → Finds (Some (record { value = value.Lit w; calls = 0 })) (IsFound (n + 1) P types funs rho inner (Term-F.Lit w))
+  lit_found w = finds_some (IsFound (n + 1) P types funs rho inner (Term-F.Lit w)) (record { value = value.Lit w; calls = 0 })
+      (record { means = lit refl; nests = omega arith }, omega arith)
+      (λ e h. let rests = rests_on n P types funs rho inner (Term-F.Lit w) e.value e.calls h.0 in
+      same_evaluated e (record { value = value.Lit w; calls = 0 }) rests.0 rests.1)
 
-  -- a constructor means the constructor on its fields' values
-  pub con_means : (t : Term) (d k : ℕ) (ts : List Ty) (fields read : List Term) (vs : List Value) (v : Value) (c : ℕ) → t ≡ Con d k ts fields → read ≡ fields → MeanAll P [] [] rho [] read vs c → v ≡ value.Con d k vs → Means P [] [] rho t v c
-  con_means t d k ts fields read vs v c is read_is all value_is = by_layer t (Term-F.Con d k ts fields) v c (ap out-Term is ∙ outs-Con d k ts fields) (con (subst (λ fs. MeanAll P [] [] rho [] fs vs c) read_is all) value_is)
+  -- a constructor has itself on its fields' values
+  pub con_found : (d k : ℕ) (ts : List Ty) (fields : List Term) (o : Option AllEvaluated) (r : Option Evaluated) → Finds o (λ (e : AllEvaluated). MeanAllWithin n P types funs rho inner fields e.values e.calls × (e.calls < 2 ^ 64)) →
+      r ≡ option_map (on_fields d k) o → Finds r (IsFound (n + 1) P types funs rho inner (Term-F.Con d k ts fields))
+  con_found d k ts fields o r finds is = subst (λ x. Finds x (IsFound (n + 1) P types funs rho inner (Term-F.Con d k ts fields))) (sym is) (by o finds)
+    where
+      by : (o : Option AllEvaluated) → Finds o (λ (e : AllEvaluated). MeanAllWithin n P types funs rho inner fields e.values e.calls × (e.calls < 2 ^ 64)) →
+          Finds (option_map (on_fields d k) o) (IsFound (n + 1) P types funs rho inner (Term-F.Con d k ts fields))
+      by None finds = finds_none (IsFound (n + 1) P types funs rho inner (Term-F.Con d k ts fields)) (λ e h.
+          let rests = rests_on n P types funs rho inner (Term-F.Con d k ts fields) e.value e.calls h.0 in
+          found_absent (λ (e : AllEvaluated). MeanAllWithin n P types funs rho inner fields e.values e.calls × (e.calls < 2 ^ 64)) None (record { values = rests.vs; calls = e.calls }) finds refl (rests.all, h.1))
+      by (Some all) finds = finds_some (IsFound (n + 1) P types funs rho inner (Term-F.Con d k ts fields)) (on_fields d k all)
+          (record { means = con finds.right.0.mean refl; nests = omega (arith, finds.right.0.nest) }, finds.right.1) (λ e h.
+          let rests = rests_on n P types funs rho inner (Term-F.Con d k ts fields) e.value e.calls h.0 in
+          let same : record { values = rests.vs; calls = e.calls } ≡ all = found_same (λ (e : AllEvaluated). MeanAllWithin n P types funs rho inner fields e.values e.calls × (e.calls < 2 ^ 64)) (Some all) all (record { values = rests.vs; calls = e.calls }) finds refl (rests.all, h.1) in
+          same_evaluated e (on_fields d k all) (rests.is ∙ ap (λ (x : AllEvaluated). value.Con d k x.values) same) (ap (λ (x : AllEvaluated). x.calls) same))
 
-  -- a match means what the arm means that its scrutinee's value chooses
-  pub match_means : (t on read : Term) (d : ℕ) (ts : List Ty) (arms listed : List Term) (u v w : Value) (arm : Term) (a b c : ℕ) → t ≡ Match on d ts arms → read ≡ on → listed ≡ arms → Means P [] [] rho read u a → chosen listed (out-Value u) ≡ Some (arm, []) → Means P [] [] rho arm w b → v ≡ w → c ≡ a + b → Means P [] [] rho t v c
-  match_means t on read d ts arms listed u v w arm a b c is read_is listed_is scrutinee chosen_is means value_is count =
-      let scrutinee_means : Means P [] [] rho on u a = subst (λ s. Means P [] [] rho s u a) read_is scrutinee in
-      let arm_is : chosen arms (out-Value u) ≡ Some (arm, []) = subst (λ xs. chosen xs (out-Value u) ≡ Some (arm, [])) listed_is chosen_is in
-      let arm_means : Means P [] [] rho arm v b = subst (λ x. Means P [] [] rho arm x b) (sym value_is) means in
-      by_layer t (Term-F.Match on d ts arms) v c (ap out-Term is ∙ outs-Match on d ts arms) (choose scrutinee_means arm_is arm_means (sym count))
+-- the values of the pattern variables inside an arm
+pub bound_is : (inner fields now : List Value) → now ≡ inner ++ fields → reverse now ≡ bind fields (reverse inner)
+bound_is inner fields now is = ap (λ (xs : List Value). reverse xs) is ∙ reverse-append inner fields
 
-  -- a function without types is the definition of its number alone
-  plain_fun : (f : Fun) (n : ℕ) → f.head ≡ Def n → f.types ≡ [] → f ≡ record { head = Def n; types = [] }
-  plain_fun f n head_is types_are = rw (sym head_is, sym types_are) refl
+-- A match.
+module _ (n : ℕ) (P : Program) (types : List Ty) (funs : List Fun) (rho inner : List Value) (d : ℕ) (ts : List Ty) (on : Term) (arms : List Term)
+    (o : Option Evaluated) (finds : Finds o (IsFound n P types funs rho inner (out-Term on))) where
+  -- where the scrutinee has no value, the match has none
+  pub match_unseen : o ≡ None → Finds None (IsFound (n + 1) P types funs rho inner (Term-F.Match on d ts arms))
+  match_unseen is = finds_none (IsFound (n + 1) P types funs rho inner (Term-F.Match on d ts arms)) (λ x h.
+      let rests = rests_on n P types funs rho inner (Term-F.Match on d ts arms) x.value x.calls h.0 in
+      let small : rests.a < 2 ^ 64 = omega (arith, rests.total, h.1) in
+      found_absent (IsFound n P types funs rho inner (out-Term on)) o (record { value = rests.u; calls = rests.a }) finds is (rests.on_means, small))
 
-  -- a call of a definition without types and functions means what the definition gives on its arguments' values
-  pub call_means : (t : Term) (f : Fun) (fs : List Fun) (args read : List Term) (n : ℕ) (vs : List Value) (v w : Value) (a b c : ℕ) → t ≡ Call f fs args → f.head ≡ Def n → f.types ≡ [] → fs ≡ [] → read ≡ args → MeanAll P [] [] rho [] read vs a → Gives P (record { head = Def n; types = [] }) [] vs w b → v ≡ w → c ≡ a + b → Means P [] [] rho t v c
-  call_means t f fs args read n vs v w a b c is head_is types_are functions read_is all gives value_is count =
-      let function : f ≡ record { head = Def n; types = [] } = plain_fun f n head_is types_are in
-      let layer : out-Term t ≡ Term-F.Call (record { head = Def n; types = [] }) [] args = ap out-Term is ∙ (outs-Call f fs args ∙ (ap (λ (g : Fun). Term-F.Call g fs args) function ∙ ap (λ (gs : List Fun). Term-F.Call (record { head = Def n; types = [] }) gs args) functions)) in
-      let arguments : MeanAll P [] [] rho [] args vs a = subst (λ ts. MeanAll P [] [] rho [] ts vs a) read_is all in
-      let result : Gives P (record { head = Def n; types = [] }) [] vs v b = subst (λ x. Gives P (record { head = Def n; types = [] }) [] vs x b) (sym value_is) gives in
-      by_layer t (Term-F.Call (record { head = Def n; types = [] }) [] args) v c layer (call {g = record { head = Def n; types = [] }} {gs = []} arguments refl tt result (sym count))
+  module _ (e : Evaluated) (seen : o ≡ Some e) where
+    -- where no arm is chosen, the match has none
+    pub match_stuck : chosen arms (out-Value e.value) ≡ None → Finds None (IsFound (n + 1) P types funs rho inner (Term-F.Match on d ts arms))
+    match_stuck is = finds_none (IsFound (n + 1) P types funs rho inner (Term-F.Match on d ts arms)) (λ x h.
+        let rests = rests_on n P types funs rho inner (Term-F.Match on d ts arms) x.value x.calls h.0 in
+        let small : rests.a < 2 ^ 64 = omega (arith, rests.total, h.1) in
+        let same : record { value = rests.u; calls = rests.a } ≡ e =
+        found_same (IsFound n P types funs rho inner (out-Term on)) o e (record { value = rests.u; calls = rests.a }) finds seen (rests.on_means, small) in
+        let never : None ≡ Some (rests.arm, rests.vs) = sym is ∙ (ap (λ (x : Evaluated). chosen arms (out-Value x.value)) (sym same) ∙ rests.chooses) in
+        cc)
 
-  -- the values of terms, with the value of one more
-  pub means_push : (ts : List Term) (vs : List Value) (a b : ℕ) (t : Term) (v : Value) → MeanAll P [] [] rho [] ts vs a → Means P [] [] rho t v b → MeanAll P [] [] rho [] (ts ++ t ∷ []) (vs ++ v ∷ []) (a + b)
-  means_push _ _ _ b t v none means = more means none (omega arith)
-  means_push _ _ _ b t v (more {t = s} {ts = ts} {v = u} {vs = vs} {a = a} {b = a'} {c = c} first rest e) means = more first (means_push ts vs a' b t v rest means) (omega (arith, e))
+    module _ (arm : Term) (fields : List Value) (chooses : chosen arms (out-Value e.value) ≡ Some (arm, fields)) where
+      -- the arm is what the match is made of
+      arm_of_match : (x : Evaluated) → IsFound (n + 1) P types funs rho inner (Term-F.Match on d ts arms) x →
+          OfPart (IsFound n P types funs rho (bind fields inner) (out-Term arm)) e.calls x
+      arm_of_match x h =
+          let rests = rests_on n P types funs rho inner (Term-F.Match on d ts arms) x.value x.calls h.0 in
+          let small : rests.a < 2 ^ 64 = omega (arith, rests.total, h.1) in
+          let same : record { value = rests.u; calls = rests.a } ≡ e =
+          found_same (IsFound n P types funs rho inner (out-Term on)) o e (record { value = rests.u; calls = rests.a }) finds seen (rests.on_means, small) in
+          let count : rests.a ≡ e.calls = ap (λ (x : Evaluated). x.calls) same in
+          let both : Some (rests.arm, rests.vs) ≡ Some (arm, fields) =
+          sym rests.chooses ∙ (ap (λ (x : Evaluated). chosen arms (out-Value x.value)) same ∙ chooses) in
+          let pair : (rests.arm, rests.vs) ≡ (arm, fields) = some_is (rests.arm, rests.vs) (arm, fields) both in
+          let means : MeansWithin n P types funs rho (bind fields inner) (out-Term arm) x.value rests.b =
+          subst (λ (p : Term × List Value). MeansWithin n P types funs rho (bind p.1 inner) (out-Term p.0) x.value rests.b) pair rests.arm_means in
+          record {
+            found = record { value = x.value; calls = rests.b };
+            is = (means, omega (arith, rests.total, h.1));
+            adds = (refl, omega (arith, rests.total, count), h.1);
+          }
 
-  -- no terms have no values
-  pub means_none : (ts : List Term) (vs : List Value) → vs ≡ [] → MeanAll P [] [] rho [] (take 0 ts) vs 0
-  means_none ts vs is = subst (λ xs. MeanAll P [] [] rho [] [] xs 0) (sym is) none
+      match_of_arm : (found x : Evaluated) → IsFound n P types funs rho (bind fields inner) (out-Term arm) found → Adds found e.calls x →
+          IsFound (n + 1) P types funs rho inner (Term-F.Match on d ts arms) x
+      match_of_arm found x part adds =
+          let on_found = found_is (IsFound n P types funs rho inner (out-Term on)) o e finds seen in
+          let means : MeansWithin (n + 1) P types funs rho inner (Term-F.Match on d ts arms) found.value x.calls =
+          record { means = choose on_found.0.means chooses part.0.means (sym adds.1); nests = omega (arith, on_found.0.nests, part.0.nests) } in
+          (subst (λ v. MeansWithin (n + 1) P types funs rho inner (Term-F.Match on d ts arms) v x.calls) (sym adds.0) means, adds.2)
 
-  -- the values of the first terms, with the value of the next
-  pub means_step : (ts : List Term) (i : ℕ) (t : Term) (vs now : List Value) (v : Value) (a b c : ℕ) → i < length ts → t ≡ get_or ts i t → MeanAll P [] [] rho [] (take i ts) vs a → Means P [] [] rho t v b → now ≡ vs ++ v ∷ [] → c ≡ a + b → MeanAll P [] [] rho [] (take (i + 1) ts) now c
-  means_step ts i t vs now v a b c within is before means now_is count =
-      let items : take i ts ++ t ∷ [] ≡ take (i + 1) ts = ap (λ x. take i ts ++ x ∷ []) is ∙ sym (take_more ts i t within) in
-      let pushed : MeanAll P [] [] rho [] (take i ts ++ t ∷ []) (vs ++ v ∷ []) (a + b) = means_push (take i ts) vs a b t v before means in
-      subst (λ k. MeanAll P [] [] rho [] (take (i + 1) ts) now k) (sym count) (subst (λ xs. MeanAll P [] [] rho [] (take (i + 1) ts) xs (a + b)) (sym now_is) (subst (λ xs. MeanAll P [] [] rho [] xs (vs ++ v ∷ []) (a + b)) items pushed))
+      module _ (within : List Value) (within_is : within ≡ bind fields inner) (p : Option Evaluated)
+          (part : Finds p (IsFound n P types funs rho within (out-Term arm))) where
+        -- where the arm has no value, the match has none
+        pub match_absent : p ≡ None → Finds None (IsFound (n + 1) P types funs rho inner (Term-F.Match on d ts arms))
+        match_absent is = part_absent (IsFound n P types funs rho (bind fields inner) (out-Term arm))
+            (IsFound (n + 1) P types funs rho inner (Term-F.Match on d ts arms)) e.calls p arm_of_match
+            (subst (λ w. Finds p (IsFound n P types funs rho w (out-Term arm))) within_is part) is
 
--- a definition gives what its body means at the values of its parameters, with one more call
-pub definition_gives : (P : Program) (n : ℕ) (inputs : List Value) (d : definition.Def) (v w : Value) (b c : ℕ) → slice_get P.defs n ≡ Some d → Means P [] [] inputs d.body w b → v ≡ w → c ≡ 1 + b → Gives P (record { head = Def n; types = [] }) [] inputs v c
-definition_gives P n inputs d v w b c found means value_is count =
-    let body : option_map (λ (d : definition.Def). d.body) (slice_get P.defs n) ≡ Some d.body = ap (option_map (λ (d : definition.Def). d.body)) found in
-    defined body (subst (λ x. Means P [] [] inputs d.body x b) (sym value_is) means) (omega (arith, count))
+        -- the match has the value of the arm, with the calls of the scrutinee
+        pub match_found : (found : Evaluated) → p ≡ Some found → (r : Option Evaluated) → Finds r (Adds found e.calls) →
+            Finds r (IsFound (n + 1) P types funs rho inner (Term-F.Match on d ts arms))
+        match_found found is r adds = part_found (IsFound n P types funs rho (bind fields inner) (out-Term arm))
+            (IsFound (n + 1) P types funs rho inner (Term-F.Match on d ts arms)) e.calls p arm_of_match
+            (subst (λ w. Finds p (IsFound n P types funs rho w (out-Term arm))) within_is part) match_of_arm found is r adds
+
+-- functions stand for one list of functions
+one_of_each : (types : List Ty) (funs fs gs hs : List Fun) → FunsMean types funs fs gs → FunsMean types funs fs hs → gs ≡ hs
+one_of_each types funs [] [] [] p q = refl
+one_of_each types funs [] [] (h ∷ hs) p q = absurd q
+one_of_each types funs [] (g ∷ gs) hs p q = absurd p
+one_of_each types funs (f ∷ fs) [] hs p q = absurd p
+one_of_each types funs (f ∷ fs) (g ∷ gs) [] p q = absurd q
+one_of_each types funs (f ∷ fs) (g ∷ gs) (h ∷ hs) p q =
+    let both : Some g ≡ Some h = sym p.0 ∙ q.0 in
+    let first : g ≡ h = some_is g h both in
+    let others : gs ≡ hs = one_of_each types funs fs gs hs p.1 q.1 in
+    ap (λ x. x ∷ gs) first ∙ ap (λ xs. h ∷ xs) others
+
+-- A call.
+module _ (n : ℕ) (P : Program) (types : List Ty) (funs : List Fun) (rho inner : List Value) (f : Fun) (fs : List Fun) (args : List Term) where
+  -- where a function stands for nothing, the call has no value
+  pub call_of_nothing : (o : Option Callee) → Finds o (λ (callee : Callee). FunMeans types funs f callee.fun × FunsMean types funs fs callee.funs) → o ≡ None →
+      Finds None (IsFound (n + 1) P types funs rho inner (Term-F.Call f fs args))
+  call_of_nothing o finds is = finds_none (IsFound (n + 1) P types funs rho inner (Term-F.Call f fs args)) (λ x h.
+      let rests = rests_on n P types funs rho inner (Term-F.Call f fs args) x.value x.calls h.0 in
+      found_absent (λ (callee : Callee). FunMeans types funs f callee.fun × FunsMean types funs fs callee.funs) o (record { fun = rests.g; funs = rests.gs }) finds is
+      (rests.fun_means, rests.funs_mean))
+
+  module _ (o : Option AllEvaluated) (finds : Finds o (λ (e : AllEvaluated). MeanAllWithin n P types funs rho inner args e.values e.calls × (e.calls < 2 ^ 64))) where
+    -- where an argument has no value, the call has none
+    pub call_unseen : o ≡ None → Finds None (IsFound (n + 1) P types funs rho inner (Term-F.Call f fs args))
+    call_unseen is = finds_none (IsFound (n + 1) P types funs rho inner (Term-F.Call f fs args)) (λ x h.
+        let rests = rests_on n P types funs rho inner (Term-F.Call f fs args) x.value x.calls h.0 in
+        let small : rests.a < 2 ^ 64 = omega (arith, rests.total, h.1) in
+        found_absent (λ (e : AllEvaluated). MeanAllWithin n P types funs rho inner args e.values e.calls × (e.calls < 2 ^ 64)) o
+        (record { values = rests.vs; calls = rests.a }) finds is (rests.all, small))
+
+    module _ (e : AllEvaluated) (seen : o ≡ Some e) (callee : Callee) (fun_means : FunMeans types funs f callee.fun) (funs_mean : FunsMean types funs fs callee.funs) where
+      -- what the function gives is what the call is made of
+      gift_of_call : (x : Evaluated) → IsFound (n + 1) P types funs rho inner (Term-F.Call f fs args) x → OfPart (IsGiven n P callee e.values) e.calls x
+      gift_of_call x h =
+          let rests = rests_on n P types funs rho inner (Term-F.Call f fs args) x.value x.calls h.0 in
+          let small : rests.a < 2 ^ 64 = omega (arith, rests.total, h.1) in
+          let same : record { values = rests.vs; calls = rests.a } ≡ e =
+          found_same (λ (e : AllEvaluated). MeanAllWithin n P types funs rho inner args e.values e.calls × (e.calls < 2 ^ 64)) o e
+          (record { values = rests.vs; calls = rests.a }) finds seen (rests.all, small) in
+          let count : rests.a ≡ e.calls = ap (λ (x : AllEvaluated). x.calls) same in
+          let values : rests.vs ≡ e.values = ap (λ (x : AllEvaluated). x.values) same in
+          let both : Some rests.g ≡ Some callee.fun = sym rests.fun_means ∙ fun_means in
+          let function : rests.g ≡ callee.fun = some_is rests.g callee.fun both in
+          let functions : rests.gs ≡ callee.funs = one_of_each types funs fs rests.gs callee.funs rests.funs_mean funs_mean in
+          let gives : GivesWithin n P callee.fun callee.funs e.values x.value rests.b =
+          subst (λ g. GivesWithin n P g callee.funs e.values x.value rests.b) function
+          (subst (λ gs. GivesWithin n P rests.g gs e.values x.value rests.b) functions
+          (subst (λ vs. GivesWithin n P rests.g rests.gs vs x.value rests.b) values rests.gives)) in
+          record {
+            found = record { value = x.value; calls = rests.b };
+            is = (gives, omega (arith, rests.total, h.1));
+            adds = (refl, omega (arith, rests.total, count), h.1);
+          }
+
+      call_of_gift : (found x : Evaluated) → IsGiven n P callee e.values found → Adds found e.calls x → IsFound (n + 1) P types funs rho inner (Term-F.Call f fs args) x
+      call_of_gift found x part adds =
+          let inputs = found_is (λ (e : AllEvaluated). MeanAllWithin n P types funs rho inner args e.values e.calls × (e.calls < 2 ^ 64)) o e finds seen in
+          let means : MeansWithin (n + 1) P types funs rho inner (Term-F.Call f fs args) found.value x.calls =
+          record { means = call {g = callee.fun} {gs = callee.funs} inputs.0.mean fun_means funs_mean part.0.gives (sym adds.1); nests = omega (arith, inputs.0.nest, part.0.body_nests) } in
+          (subst (λ v. MeansWithin (n + 1) P types funs rho inner (Term-F.Call f fs args) v x.calls) (sym adds.0) means, adds.2)
+
+      module _ (p : Option Evaluated) (part : Finds p (IsGiven n P callee e.values)) where
+        -- where the function gives no value, the call has none
+        pub call_absent : p ≡ None → Finds None (IsFound (n + 1) P types funs rho inner (Term-F.Call f fs args))
+        call_absent is = part_absent (IsGiven n P callee e.values) (IsFound (n + 1) P types funs rho inner (Term-F.Call f fs args)) e.calls p gift_of_call part is
+
+        -- the call has the value that the function gives, with the calls of the arguments
+        pub call_found : (found : Evaluated) → p ≡ Some found → (r : Option Evaluated) → Finds r (Adds found e.calls) →
+            Finds r (IsFound (n + 1) P types funs rho inner (Term-F.Call f fs args))
+        call_found found is r adds = part_found (IsGiven n P callee e.values) (IsFound (n + 1) P types funs rho inner (Term-F.Call f fs args)) e.calls p gift_of_call part
+            call_of_gift found is r adds
+
+-- What a function gives.
+module _ (n : ℕ) (P : Program) (f : Callee) (inputs : List Value) where
+  module _ (i : ℕ) (head_is : f.fun.head ≡ Def i) where
+    module _ (d : definition.Def) (d_is : slice_get P.defs i ≡ Some d) where
+      body_is : body_of P i ≡ Some d.body
+      body_is = ap (option_map (λ (d : definition.Def). d.body)) d_is
+
+      function_is : f.fun ≡ record { head = Def i; types = f.fun.types }
+      function_is = λ j. record { head = head_is j; types = f.fun.types }
+
+      body_of_gift : (x : Evaluated) → IsGiven n P f inputs x → OfPart (IsFound n P f.fun.types f.funs inputs [] (out-Term d.body)) 1 x
+      body_of_gift x h =
+          let rests = gift_rests_on n P f.fun (Def i) f.funs inputs x.value x.calls head_is h.0 in
+          let both : Some rests.body ≡ Some d.body = sym rests.found ∙ body_is in
+          let body : rests.body ≡ d.body = some_is rests.body d.body both in
+          let means : MeansWithin n P f.fun.types f.funs inputs [] (out-Term d.body) x.value rests.b =
+          subst (λ t. MeansWithin n P f.fun.types f.funs inputs [] (out-Term t) x.value rests.b) body rests.means in
+          record {
+            found = record { value = x.value; calls = rests.b };
+            is = (means, omega (arith, rests.total, h.1));
+            adds = (refl, omega (arith, rests.total), h.1);
+          }
+
+      gift_of_body : (found x : Evaluated) → IsFound n P f.fun.types f.funs inputs [] (out-Term d.body) found → Adds found 1 x → IsGiven n P f inputs x
+      gift_of_body found x part adds =
+          let total : found.calls + 1 ≡ x.calls = omega (arith, adds.1) in
+          let gives : GivesWithin n P (record { head = Def i; types = f.fun.types }) f.funs inputs found.value x.calls =
+          record { gives = defined body_is part.0.means total; body_nests = part.0.nests } in
+          (subst (λ v. GivesWithin n P f.fun f.funs inputs v x.calls) (sym adds.0) (subst (λ g. GivesWithin n P g f.funs inputs found.value x.calls) (sym function_is) gives), adds.2)
+
+      module _ (types : List Ty) (types_are : types ≡ f.fun.types) (funs : List Fun) (funs_are : funs ≡ f.funs) (inner : List Value) (nothing : inner ≡ []) (p : Option Evaluated)
+          (part : Finds p (IsFound n P types funs inputs (reverse inner) (out-Term d.body))) where
+        here : Finds p (IsFound n P f.fun.types f.funs inputs [] (out-Term d.body))
+        here = subst (λ ts. Finds p (IsFound n P ts f.funs inputs [] (out-Term d.body))) types_are
+            (subst (λ fs. Finds p (IsFound n P types fs inputs [] (out-Term d.body))) funs_are
+            (subst (λ xs. Finds p (IsFound n P types funs inputs (reverse xs) (out-Term d.body))) nothing part))
+
+        -- where the body has no value, the definition gives none
+        pub body_absent : p ≡ None → Finds None (IsGiven n P f inputs)
+        body_absent is = part_absent (IsFound n P f.fun.types f.funs inputs [] (out-Term d.body)) (IsGiven n P f inputs) 1 p body_of_gift here is
+
+        -- the definition gives the value of its body, with one more call
+        pub body_found : (found : Evaluated) → p ≡ Some found → (r : Option Evaluated) → Finds r (Adds found 1) → Finds r (IsGiven n P f inputs)
+        body_found found is r adds = part_found (IsFound n P f.fun.types f.funs inputs [] (out-Term d.body)) (IsGiven n P f inputs) 1 p body_of_gift here
+            gift_of_body found is r adds
+
+-- What a built-in gives: of two words a truth value, and of anything else nothing.
+module _ (holds : ℕ → ℕ → Bool) (Is : Evaluated → Type 0) (vs : List Value) (invert : (x : Evaluated) → Is x → WordsRest holds vs x.value x.calls)
+    (o : Option (ℕ × ℕ)) (finds : Finds o (AreWords vs)) where
+  words_absent : o ≡ None → Finds None Is
+  words_absent is = finds_none Is (λ x h. found_absent (AreWords vs) o (invert x h).words finds is (invert x h).are)
+
+  words_found : (words : ℕ × ℕ) → o ≡ Some words → (t : Evaluated) → t.value ≡ truth (holds words.0 words.1) → t.calls ≡ 0 → (AreWords vs words → Is t) → Finds (Some t) Is
+  words_found words is t value_is calls build = finds_some Is t (build (found_is (AreWords vs) o words finds is)) (λ x h.
+      let rests = invert x h in
+      let same : rests.words ≡ words = found_same (AreWords vs) o words rests.words finds is rests.are in
+      same_evaluated x t (rests.is ∙ (ap (λ (w : ℕ × ℕ). truth (holds w.0 w.1)) same ∙ sym value_is)) (rests.calls ∙ sym calls))
+
+module _ (n : ℕ) (P : Program) (f : Callee) (vs : List Value) where
+  wle_gives : f.fun.head ≡ Wle → (xs : List Value) (words : ℕ × ℕ) → AreWords xs words → GivesWithin n P f.fun f.funs xs (truth (nat_le words.0 words.1)) 0
+  wle_gives is [] words are = absurd are
+  wle_gives is (a ∷ []) words are = absurd are
+  wle_gives is (a ∷ b ∷ []) words are =
+      let function : f.fun ≡ record { head = Wle; types = f.fun.types } = λ j. record { head = is j; types = f.fun.types } in
+      let gives : GivesWithin n P (record { head = Wle; types = f.fun.types }) f.funs (a ∷ b ∷ []) (truth (nat_le words.0 words.1)) 0 =
+      record { gives = at_most are.0 are.1 refl; body_nests = omega arith } in
+      subst (λ g. GivesWithin n P g f.funs (a ∷ b ∷ []) (truth (nat_le words.0 words.1)) 0) (sym function) gives
+  wle_gives is (a ∷ b ∷ c ∷ others) words are = absurd are
+
+  weq_gives : f.fun.head ≡ Weq → (xs : List Value) (words : ℕ × ℕ) → AreWords xs words → GivesWithin n P f.fun f.funs xs (truth (words.0 == words.1)) 0
+  weq_gives is [] words are = absurd are
+  weq_gives is (a ∷ []) words are = absurd are
+  weq_gives is (a ∷ b ∷ []) words are =
+      let function : f.fun ≡ record { head = Weq; types = f.fun.types } = λ j. record { head = is j; types = f.fun.types } in
+      let gives : GivesWithin n P (record { head = Weq; types = f.fun.types }) f.funs (a ∷ b ∷ []) (truth (words.0 == words.1)) 0 =
+      record { gives = equal are.0 are.1 refl; body_nests = omega arith } in
+      subst (λ g. GivesWithin n P g f.funs (a ∷ b ∷ []) (truth (words.0 == words.1)) 0) (sym function) gives
+  weq_gives is (a ∷ b ∷ c ∷ others) words are = absurd are
+
+  -- this value, with no call
+  given_at : (v : Value) (t : Evaluated) → t.value ≡ v → t.calls ≡ 0 → GivesWithin n P f.fun f.funs vs v 0 → IsGiven n P f vs t
+  given_at v t value_is calls gives =
+      (subst (λ w. GivesWithin n P f.fun f.funs vs w t.calls) (sym value_is) (subst (λ c. GivesWithin n P f.fun f.funs vs v c) (sym calls) gives), omega (arith, calls))
+
+  module _ (o : Option (ℕ × ℕ)) (finds : Finds o (AreWords vs)) where
+    pub wle_absent : f.fun.head ≡ Wle → o ≡ None → Finds None (IsGiven n P f vs)
+    wle_absent is absent = words_absent nat_le (IsGiven n P f vs) vs (λ x h. gift_rests_on n P f.fun Wle f.funs vs x.value x.calls is h.0) o finds absent
+
+    pub weq_absent : f.fun.head ≡ Weq → o ≡ None → Finds None (IsGiven n P f vs)
+    weq_absent is absent = words_absent (λ x y. x == y) (IsGiven n P f vs) vs (λ x h. gift_rests_on n P f.fun Weq f.funs vs x.value x.calls is h.0) o finds absent
+
+    pub wle_found : f.fun.head ≡ Wle → (words : ℕ × ℕ) → o ≡ Some words → (t : Evaluated) → t.value ≡ truth (nat_le words.0 words.1) → t.calls ≡ 0 →
+        Finds (Some t) (IsGiven n P f vs)
+    wle_found is words found t value_is calls =
+        words_found nat_le (IsGiven n P f vs) vs (λ x h. gift_rests_on n P f.fun Wle f.funs vs x.value x.calls is h.0) o finds words found t value_is calls
+        (λ are. given_at (truth (nat_le words.0 words.1)) t value_is calls (wle_gives is vs words are))
+
+    pub weq_found : f.fun.head ≡ Weq → (words : ℕ × ℕ) → o ≡ Some words → (t : Evaluated) → t.value ≡ truth (words.0 == words.1) → t.calls ≡ 0 →
+        Finds (Some t) (IsGiven n P f vs)
+    weq_found is words found t value_is calls =
+        words_found (λ x y. x == y) (IsGiven n P f vs) vs (λ x h. gift_rests_on n P f.fun Weq f.funs vs x.value x.calls is h.0) o finds words found t value_is calls
+        (λ are. given_at (truth (words.0 == words.1)) t value_is calls (weq_gives is vs words are))
+
+-- a word chooses no arm
+pub lit_chooses : (arms : List Term) (v : Value) (w : ℕ) → v ≡ value.Lit w → chosen arms (out-Value v) ≡ None
+lit_chooses arms v w is = ap (λ x. chosen arms (out-Value x)) is ∙ ap (λ y. chosen arms y) (outs-Lit w)
+
+-- a constructor chooses the arm of its number, with its fields
+pub con_chooses : (arms : List Term) (v : Value) (d k : ℕ) (fields : List Value) → v ≡ value.Con d k fields → (o : Option Term) → o ≡ slice_get arms k →
+    chosen arms (out-Value v) ≡ option_map (λ (arm : Term). (arm, fields)) o
+con_chooses arms v d k fields is o o_is =
+    ap (λ x. chosen arms (out-Value x)) is ∙ (ap (λ y. chosen arms y) (outs-Con d k fields) ∙ ap (λ (x : Option Term). option_map (λ (arm : Term). (arm, fields)) x) (sym o_is))

@@ -1,20 +1,28 @@
 //! The rules of evaluation: one function each. `fuel` goes down wherever the value of a term is begun.
 
-ghost use Rattle.std.specs.Prelude.{[], IfOk, IfSome};
-ghost use Rattle.px_terms.specs.Head.TheVariants.{Def};
-ghost use Rattle.px_terms.specs.Meaning.{Gives, MeanAll, Means};
+ghost use Rattle.std.specs.Prelude.{◌≡◌, ◌↔◌, ◌+◌, ℕ, List, None, Some, IfOk};
+ghost use Rattle.px_terms.specs.declared.types.Ty.{Ty};
+ghost use Rattle.px_terms.specs.declared.types.Fun.{Fun as AnyFun};
+ghost use Rattle.px_terms.specs.declared.term.Term.TheOpen.{Term-F};
+ghost use Rattle.px_terms.specs.Meaning.{FunMeans, FunsMean};
+ghost use Rattle.px_evaluate.specs.declared.values.Evaluated.{Evaluated as AnyEvaluated};
+ghost use Rattle.px_evaluate.specs.Evaluating.{IsEvaluated};
+ghost use Rattle.px_evaluate.specs.Finding.{AreFoundIn, Finds, IsFoundIn, IsGiven, IsValueIn};
 
-use crate::values::{AllEvaluated, Evaluated, arm_of, variable, with_calls};
+use crate::functions::{at_most, callee_of, equal};
+use crate::scope::{Callee, Scope};
+use crate::values::{
+    AllEvaluated, Evaluated, arm_of, at_hand, bound_by, constructed, nearest, variable, with_calls,
+};
 use px_terms::{Head, NoMemory, Program, Term, Value};
 use sqlite_items::{Items, at};
 use std::alloc::Global;
 
 /// What a closed term, or a term at these values of its free variables, means in the program: its value, and
-/// the number of calls that it takes. None where this evaluator finds no value: a variable has none, a match
-/// has no arm for its value, a called definition is missing, evaluation nests deeper than `fuel` terms, or
-/// the calls are more than a u64 counts. None also where a part is not built here: pattern variables,
-/// matches on a constructor with fields, type arguments and function arguments of a call, calls of built-ins
-/// and of function variables. Its calls nest as deep as evaluation does.
+/// the number of calls that it takes. It is found exactly where the term has a meaning whose terms nest at most
+/// `fuel` deep, and whose calls are at most 2^64 - 1. None otherwise: the term nests deeper, or takes more calls,
+/// or has no meaning at all, since a variable or a called definition is missing, or a match has no arm for its
+/// value. It takes memory, and fails only where there is none; its calls nest as deep as evaluation does.
 pub fn evaluate(
     alloc: Global,
     program: &Program,
@@ -22,164 +30,165 @@ pub fn evaluate(
     values: &[Value],
     term: &Term,
 ) -> Result<Option<Evaluated>, NoMemory>
-    ensures { IfOk result (λ found. IfSome found (λ e. Means program.now [] [] values.now term.now e.value e.calls)) }
+    ensures finds { IfOk result (λ found. (e : AnyEvaluated) → ((found ≡ Some e) ↔ IsEvaluated fuel program.now values.now term.now e)) }
+    ensures nothing { IfOk result (λ found. (found ≡ None) ↔ ((e : AnyEvaluated) → ¬ IsEvaluated fuel program.now values.now term.now e)) }
 {
-    value_of(alloc, program, fuel, values, term)
+    let types = Items::new(alloc);
+    let funs = Items::new(alloc);
+    let inner = Items::new(alloc);
+    let scope = Scope {
+        program,
+        types: types.as_slice(),
+        funs: funs.as_slice(),
+        values,
+        inner: inner.as_slice(),
+    };
+    value_of(alloc, &scope, fuel, term)
 }
 
 /// The value of a term, by the rule for its outermost part.
 #[cycle(evaluate)]
 fn value_of(
     alloc: Global,
-    program: &Program,
+    scope: &Scope<'_>,
     fuel: u32,
-    values: &[Value],
     term: &Term,
 ) -> Result<Option<Evaluated>, NoMemory>
-    ensures { IfOk result (λ found. IfSome found (λ e. Means program.now [] [] values.now term.now e.value e.calls)) }
+    ensures { IfOk result (λ found. Finds found (IsValueIn scope.now fuel term.now)) }
 {
     let Some(less) = fuel.checked_sub(1) else {
         return Ok(None);
     };
     match term {
-        Term::Free(number) => variable(alloc, values, *number),
-        Term::Bound(_) => Ok(None),
+        Term::Free(number) => at_hand(alloc, variable(scope.values, *number)),
+        Term::Bound(number) => at_hand(alloc, nearest(scope.inner, *number)),
         Term::Lit(word) => Ok(Some(Evaluated {
             value: Value::Lit(*word),
             calls: 0,
         })),
-        Term::Con { .. } => constructed(alloc, program, less, values, term),
-        Term::Call { .. } => called(alloc, program, less, values, term),
-        Term::Match { .. } => matched(alloc, program, less, values, term),
+        Term::Con {
+            datatype,
+            con,
+            fields,
+            ..
+        } => {
+            let found = all_values(alloc, scope, less, fields.as_slice())?;
+            Ok(constructed(*datatype, *con, found))
+        }
+        Term::Call { fun, funs, args } => {
+            let Some(callee) = callee_of(alloc, scope, fun, funs.as_slice())? else {
+                return Ok(None);
+            };
+            called(alloc, scope, less, &callee, args.as_slice())
+        }
+        Term::Match { on, arms, .. } => matched(alloc, scope, less, on.get(), arms.as_slice()),
     }
-}
-
-/// The value of a constructor: the constructor on the values of its fields.
-#[cycle(evaluate)]
-fn constructed(
-    alloc: Global,
-    program: &Program,
-    fuel: u32,
-    values: &[Value],
-    term: &Term,
-) -> Result<Option<Evaluated>, NoMemory>
-    ensures { IfOk result (λ found. IfSome found (λ e. Means program.now [] [] values.now term.now e.value e.calls)) }
-{
-    let Term::Con {
-        datatype,
-        con,
-        fields,
-        ..
-    } = term
-    else {
-        return Ok(None);
-    };
-    let Some(found) = all_values(alloc, program, fuel, values, fields.as_slice())? else {
-        return Ok(None);
-    };
-    Ok(Some(Evaluated {
-        value: Value::Con {
-            datatype: *datatype,
-            con: *con,
-            fields: found.values,
-        },
-        calls: found.calls,
-    }))
 }
 
 /// The value of a match: that of the arm that the scrutinee's value chooses.
 #[cycle(evaluate)]
 fn matched(
     alloc: Global,
-    program: &Program,
+    scope: &Scope<'_>,
     fuel: u32,
-    values: &[Value],
-    term: &Term,
+    on: &Term,
+    arms: &[Term],
 ) -> Result<Option<Evaluated>, NoMemory>
-    ensures { IfOk result (λ found. IfSome found (λ e. Means program.now [] [] values.now term.now e.value e.calls)) }
+    ensures { (d : ℕ) → (types : List Ty) → IfOk result (λ found. Finds found (IsFoundIn scope.now (fuel + 1) (Term-F.Match on.now d types arms.now))) }
 {
-    let Term::Match { on, arms, .. } = term else {
+    let Some(scrutinee) = value_of(alloc, scope, fuel, on)? else {
         return Ok(None);
     };
-    let Some(scrutinee) = value_of(alloc, program, fuel, values, on.get())? else {
+    let Value::Con { con, fields, .. } = &scrutinee.value else {
         return Ok(None);
     };
-    let Some(arm) = arm_of(&scrutinee.value, arms.as_slice()) else {
+    let Some(arm) = arm_of(arms, *con) else {
         return Ok(None);
     };
-    let Some(found) = value_of(alloc, program, fuel, values, arm)? else {
+    let inner = bound_by(alloc, scope.inner, fields.as_slice())?;
+    let inside = Scope {
+        program: scope.program,
+        types: scope.types,
+        funs: scope.funs,
+        values: scope.values,
+        inner: inner.as_slice(),
+    };
+    let Some(found) = value_of(alloc, &inside, fuel, arm)? else {
         return Ok(None);
     };
     Ok(with_calls(found, scrutinee.calls))
 }
 
-/// The value of a call: what the definition gives on the values of the arguments.
+/// The value of a call: what the function gives on the values of the arguments.
 #[cycle(evaluate)]
 fn called(
     alloc: Global,
-    program: &Program,
+    scope: &Scope<'_>,
     fuel: u32,
-    values: &[Value],
-    term: &Term,
+    callee: &Callee,
+    args: &[Term],
 ) -> Result<Option<Evaluated>, NoMemory>
-    ensures { IfOk result (λ found. IfSome found (λ e. Means program.now [] [] values.now term.now e.value e.calls)) }
+    ensures { (f : AnyFun) → (fs : List AnyFun) → FunMeans scope.now.types.now scope.now.funs.now f callee.now.fun → FunsMean scope.now.types.now scope.now.funs.now fs callee.now.funs → IfOk result (λ found. Finds found (IsFoundIn scope.now (fuel + 1) (Term-F.Call f fs args.now))) }
 {
-    let Term::Call { fun, funs, args } = term else {
+    let Some(inputs) = all_values(alloc, scope, fuel, args)? else {
         return Ok(None);
     };
-    let Head::Def(number) = fun.head else {
-        return Ok(None);
-    };
-    if !fun.types.is_empty() {
-        return Ok(None);
-    }
-    if !funs.is_empty() {
-        return Ok(None);
-    }
-    let Some(inputs) = all_values(alloc, program, fuel, values, args.as_slice())? else {
-        return Ok(None);
-    };
-    let Some(found) = given(alloc, program, fuel, number, inputs.values.as_slice())? else {
+    let Some(found) = given(alloc, scope.program, fuel, callee, inputs.values.as_slice())? else {
         return Ok(None);
     };
     Ok(with_calls(found, inputs.calls))
 }
 
-/// What the definition of this number gives on these values: the value of its body, with one more call.
+/// What the function gives on these values: a definition the value of its body, with one more call, and a
+/// built-in a truth value, with none.
 #[cycle(evaluate)]
 fn given(
     alloc: Global,
     program: &Program,
     fuel: u32,
-    number: u32,
+    callee: &Callee,
     inputs: &[Value],
 ) -> Result<Option<Evaluated>, NoMemory>
-    ensures { IfOk result (λ found. IfSome found (λ e. Gives program.now (record { head = Def number; types = [] }) [] inputs.now e.value e.calls)) }
+    ensures { IfOk result (λ found. Finds found (IsGiven fuel program.now callee.now inputs.now)) }
 {
-    let Some(def) = at(program.defs.as_slice(), number as usize) else {
-        return Ok(None);
+    let inner = Items::new(alloc);
+    let scope = Scope {
+        program,
+        types: callee.fun.types.as_slice(),
+        funs: callee.funs.as_slice(),
+        values: inputs,
+        inner: inner.as_slice(),
     };
-    let Some(found) = value_of(alloc, program, fuel, inputs, &def.body)? else {
-        return Ok(None);
-    };
-    Ok(with_calls(found, 1))
+    match callee.fun.head {
+        Head::Def(number) => {
+            let Some(def) = at(program.defs.as_slice(), number as usize) else {
+                return Ok(None);
+            };
+            let Some(found) = value_of(alloc, &scope, fuel, &def.body)? else {
+                return Ok(None);
+            };
+            Ok(with_calls(found, 1))
+        }
+        Head::Wle => Ok(at_most(alloc, inputs)),
+        Head::Weq => Ok(equal(alloc, inputs)),
+        Head::FnVar(_) => Ok(None),
+    }
 }
 
 /// The values of the terms in order; None where one of them has none.
 #[cycle(evaluate)]
 fn all_values(
     alloc: Global,
-    program: &Program,
+    scope: &Scope<'_>,
     fuel: u32,
-    values: &[Value],
     terms: &[Term],
 ) -> Result<Option<AllEvaluated>, NoMemory>
-    ensures { IfOk result (λ found. IfSome found (λ e. MeanAll program.now [] [] values.now [] terms.now e.values e.calls)) }
+    ensures { IfOk result (λ found. Finds found (AreFoundIn scope.now fuel terms.now)) }
 {
     let mut found = Items::new(alloc);
     let mut calls: u64 = 0;
     for t in terms {
-        let Some(one) = value_of(alloc, program, fuel, values, t)? else {
+        let Some(one) = value_of(alloc, scope, fuel, t)? else {
             return Ok(None);
         };
         let Some(sum) = calls.checked_add(one.calls) else {

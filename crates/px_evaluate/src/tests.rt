@@ -124,3 +124,51 @@ fn calls_are_counted_where_there_is_a_value(rt: HostRuntime) -> Result<(), Fail>
     assert_eq!(rt; found(alloc, &Term::Free(0), DEEP)?, None);
     Ok(())
 }
+
+/// `match Pair(1, 2) { Pair(a, b) => wle(..) }` on the two pattern variables in this order.
+fn compare_fields(alloc: Global, left: u32, right: u32) -> Result<Term, AllocError> {
+    let mut fields = Items::new(alloc);
+    fields.push(Term::Lit(1))?;
+    fields.push(Term::Lit(2))?;
+    let mut args = Items::new(alloc);
+    args.push(Term::Bound(left))?;
+    args.push(Term::Bound(right))?;
+    let mut arms = Items::new(alloc);
+    arms.push(Term::Call {
+        fun: Fun {
+            head: Head::Wle,
+            types: Items::new(alloc),
+        },
+        funs: Items::new(alloc),
+        args,
+    })?;
+    Ok(Term::Match {
+        on: Boxed::new(
+            alloc,
+            Term::Con {
+                datatype: 1,
+                con: 0,
+                types: Items::new(alloc),
+                fields,
+            },
+        )?,
+        datatype: 1,
+        types: Items::new(alloc),
+        arms,
+    })
+}
+
+#[test]
+fn the_last_field_is_the_innermost(rt: HostRuntime) -> Result<(), Fail> {
+    let alloc = rt.alloc();
+    for (left, right, result) in [(1, 0, 1), (0, 1, 0), (0, 0, 1)] {
+        let term = compare_fields(alloc, left, right)?;
+        assert_eq!(rt;
+            found(alloc, &term, DEEP)?,
+            Some((result, 0)),
+            "{left} {right}"
+        );
+    }
+    assert_eq!(rt; found(alloc, &compare_fields(alloc, 0, 2)?, DEEP)?, None);
+    Ok(())
+}

@@ -1,8 +1,8 @@
 //! Values, and how they are found without evaluation.
 
-ghost use Rattle.std.specs.Prelude.{◌≡◌, ◌+◌, [], IfOk, IfSome, Some, slice_get};
-ghost use Rattle.px_terms.specs.declared.term.Value.{out-Value};
-ghost use Rattle.px_terms.specs.Meaning.{chosen};
+ghost use Rattle.std.specs.Prelude.{◌≡◌, ◌+◌, ◌++◌, IfOk, reverse, slice_get};
+ghost use Rattle.std.specs.Option.{option_copied, option_map};
+ghost use Rattle.px_evaluate.specs.Finding.{Adds, Finds, IsAtHand, on_fields};
 
 use px_terms::{NoMemory, Term, Value};
 use sqlite_items::{Items, at};
@@ -53,16 +53,29 @@ fn copy_values(alloc: Global, values: &[Value]) -> Result<Items<Value>, NoMemory
     Ok(copies)
 }
 
-/// The value of the variable of this number, copied; None where there is no such variable.
-pub(crate) fn variable(
-    alloc: Global,
-    values: &[Value],
-    number: u32,
-) -> Result<Option<Evaluated>, NoMemory>
-    ensures value { IfOk result (λ found. IfSome found (λ e. slice_get values.now number ≡ Some e.value)) }
-    ensures calls { IfOk result (λ found. IfSome found (λ e. e.calls ≡ 0)) }
+/// The value of the variable of this number; None where there is no such variable.
+pub(crate) fn variable(values: &[Value], number: u32) -> Option<&Value>
+    ensures { option_copied result ≡ slice_get values.now number }
 {
-    let Some(value) = at(values, number as usize) else {
+    at(values, number as usize)
+}
+
+/// The value of the pattern variable of this number, counted from the inside; None where there is no such variable.
+pub(crate) fn nearest(inner: &[Value], number: u32) -> Option<&Value>
+    ensures { option_copied result ≡ slice_get (reverse inner.now) number }
+{
+    let number = number as usize;
+    if inner.len() <= number {
+        return None;
+    }
+    at(inner, inner.len() - 1 - number)
+}
+
+/// A copy of the value of a variable, where it has one.
+pub(crate) fn at_hand(alloc: Global, value: Option<&Value>) -> Result<Option<Evaluated>, NoMemory>
+    ensures { IfOk result (λ found. Finds found (IsAtHand (option_copied value.entry))) }
+{
+    let Some(value) = value else {
         return Ok(None);
     };
     Ok(Some(Evaluated {
@@ -71,24 +84,49 @@ pub(crate) fn variable(
     }))
 }
 
-/// The arm that a match takes on a value without fields; None on any other value, or where the arm is
-/// missing.
-pub(crate) fn arm_of<'a>(value: &Value, arms: &'a [Term]) -> Option<&'a Term>
-    ensures { IfSome result (λ arm. chosen arms.now (out-Value value.now) ≡ Some (arm.now, [])) }
+/// The values of the pattern variables inside an arm: those around it, and those of the value's fields.
+pub(crate) fn bound_by(
+    alloc: Global,
+    inner: &[Value],
+    fields: &[Value],
+) -> Result<Items<Value>, NoMemory>
+    ensures { IfOk result (λ r. r ≡ inner.now ++ fields.now) }
 {
-    let Value::Con { con, fields, .. } = value else {
-        return None;
-    };
-    if !fields.is_empty() {
-        return None;
-    }
-    at(arms, *con as usize)
+    let mut values = copy_values(alloc, inner)?;
+    let more = copy_values(alloc, fields)?;
+    values.append(more)?;
+    Ok(values)
+}
+
+/// The arm of the constructor of this number; None where it is missing.
+pub(crate) fn arm_of(arms: &[Term], con: u32) -> Option<&Term>
+    ensures { option_copied result ≡ slice_get arms.now con }
+{
+    at(arms, con as usize)
+}
+
+/// The constructor on the values of its fields, where they have values.
+pub(crate) fn constructed(
+    datatype: u32,
+    con: u32,
+    fields: Option<AllEvaluated>,
+) -> Option<Evaluated>
+    ensures { result ≡ option_map (on_fields datatype con) fields }
+{
+    let fields = fields?;
+    Some(Evaluated {
+        value: Value::Con {
+            datatype,
+            con,
+            fields: fields.values,
+        },
+        calls: fields.calls,
+    })
 }
 
 /// What was found, with more calls; None where they are more than a u64 counts.
 pub(crate) fn with_calls(found: Evaluated, more: u64) -> Option<Evaluated>
-    ensures value { IfSome result (λ e. e.value ≡ found.value) }
-    ensures calls { IfSome result (λ e. e.calls ≡ more + found.calls) }
+    ensures { Finds result (Adds found more) }
 {
     let Some(calls) = found.calls.checked_add(more) else {
         return None;

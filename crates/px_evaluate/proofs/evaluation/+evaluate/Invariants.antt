@@ -1,5 +1,5 @@
-use Rattle.std.proofs.Common.{◌+◌, ◌*◌, [], take}
-use Rattle.px_terms.specs.Meaning.{MeanAll}
+use Rattle.std.proofs.Common.{◌+◌, ◌*◌, drop, reverse}
+use Rattle.px_evaluate.proofs.Loops.{Continues}
 use Rattle.px_evaluate.proofs.evaluation.+evaluate.Given as goal
 
 abbrev pub decreases-value_of : goal.decreases-value_of
@@ -11,9 +11,6 @@ decreases-given l = 3 * l.fuel + 1
 abbrev pub decreases-all_values : goal.decreases-all_values
 decreases-all_values l = 3 * l.fuel + 1
 
-abbrev pub decreases-constructed : goal.decreases-constructed
-decreases-constructed l = 3 * l.fuel + 2
-
 abbrev pub decreases-matched : goal.decreases-matched
 decreases-matched l = 3 * l.fuel + 2
 
@@ -21,4 +18,5 @@ abbrev pub decreases-called : goal.decreases-called
 decreases-called l = 3 * l.fuel + 2
 
 abbrev pub invariant-all_values-loop-t : goal.invariant-all_values-loop-t
-invariant-all_values-loop-t l = MeanAll l.program [] [] l.values [] (take l.t-index l.terms) l.found l.calls
+invariant-all_values-loop-t l = Continues l.fuel l.scope.program.now l.scope.types.now l.scope.funs.now l.scope.values.now (reverse l.scope.inner.now) l.terms
+    (drop l.t-index l.terms) l.found l.calls
