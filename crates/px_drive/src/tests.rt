@@ -353,7 +353,9 @@ fn each_call_has_its_end(rt: HostRuntime) -> Result<(), Fail> {
 fn derivations_of_or_are_replayed(rt: HostRuntime) -> Result<(), Fail> {
     let alloc = rt.alloc();
     for (with, derivation, printed) in DERIVATIONS {
-        let program = format!(in alloc; "def or(a: Bool, b: Bool): Bool{with} {{ match a {{ False => b, True => True }} }}")?;
+        let program = format!(in alloc;
+            "def or(a: Bool, b: Bool): Bool{with} {{ match a {{ False => b, True => True }} }}"
+        )?;
         let call = Call {
             program: program.as_bytes(),
             derivation,

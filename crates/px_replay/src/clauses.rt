@@ -34,7 +34,11 @@ pub(crate) fn clause_of(
 }
 
 /// The clause of a lemma. Rejected where there is no such lemma.
-pub(crate) fn lemma_clause(alloc: Global, program: &Program, number: u32) -> Result<Clause, ReplayEnd>
+pub(crate) fn lemma_clause(
+    alloc: Global,
+    program: &Program,
+    number: u32,
+) -> Result<Clause, ReplayEnd>
     ensures clause { IfOk result (obligations.IsDeclaredClause program.now (Declared.Lemma number)) }
     ensures only { (clause : Clause) → obligations.IsDeclaredClause program.now (Declared.Lemma number) clause → IsOkUnless result ReplayEnd.NoMemory }
 {

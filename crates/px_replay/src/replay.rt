@@ -91,11 +91,7 @@ pub fn replay_text(alloc: Global, checked: &Checked, text: &[u8]) -> Result<Acce
 }
 
 /// The same of a program that is typed and whose parts can be numbered.
-fn replay_program(
-    alloc: Global,
-    program: &Program,
-    text: &[u8],
-) -> Result<Accepted, ReplayEnd>
+fn replay_program(alloc: Global, program: &Program, text: &[u8]) -> Result<Accepted, ReplayEnd>
     requires typed { IsTyped program.now }
     requires numbered { HasNumbers program.now }
     ensures accepted { IfOk result (λ _. IsDerivationText program.now text.now) }
