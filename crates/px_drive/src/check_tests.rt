@@ -90,21 +90,21 @@ lemma back(a: Word): twice(wmax, a) = a\n",
     ),
     (
         b"data P<A, B> { Two(A, B) }\n\
-data D0<A> { E0(A) }\n\
-data D1<A> { E1(D0<P<A, A>>) }\n\
-data D2<A> { E2(D1<P<A, A>>) }\n\
-data D3<A> { E3(D2<P<A, A>>) }\n\
-data D4<A> { E4(D3<P<A, A>>) }\n\
-data D5<A> { E5(D4<P<A, A>>) }\n\
-data D6<A> { E6(D5<P<A, A>>) }\n\
-data D7<A> { E7(D6<P<A, A>>) }\n\
-data D8<A> { E8(D7<P<A, A>>) }\n\
-data D9<A> { E9(D8<P<A, A>>) }\n\
-data D10<A> { E10(D9<P<A, A>>) }\n\
-data D11<A> { E11(D10<P<A, A>>) }\n\
-data D12<A> { E12(D11<P<A, A>>) }\n\
-data D13<A> { E13(D12<P<A, A>>) }\n\
-def f(x13: D13<Word>): Bool { match x13 { E13(x12) => match x12 { E12(x11) => match x11 { E11(x10) => match x10 { E10(x9) => match x9 { E9(x8) => match x8 { E8(x7) => match x7 { E7(x6) => match x6 { E6(x5) => match x5 { E5(x4) => match x4 { E4(x3) => match x3 { E3(x2) => match x2 { E2(x1) => match x1 { E1(x0) => match x0 { E0(y) => True } } } } } } } } } } } } } } }\n",
+data Q0<A> { E0(A) }\n\
+data Q1<A> { E1(Q0<P<A, A>>) }\n\
+data Q2<A> { E2(Q1<P<A, A>>) }\n\
+data Q3<A> { E3(Q2<P<A, A>>) }\n\
+data Q4<A> { E4(Q3<P<A, A>>) }\n\
+data Q5<A> { E5(Q4<P<A, A>>) }\n\
+data Q6<A> { E6(Q5<P<A, A>>) }\n\
+data Q7<A> { E7(Q6<P<A, A>>) }\n\
+data Q8<A> { E8(Q7<P<A, A>>) }\n\
+data Q9<A> { E9(Q8<P<A, A>>) }\n\
+data Q10<A> { E10(Q9<P<A, A>>) }\n\
+data Q11<A> { E11(Q10<P<A, A>>) }\n\
+data Q12<A> { E12(Q11<P<A, A>>) }\n\
+data Q13<A> { E13(Q12<P<A, A>>) }\n\
+def f(x13: Q13<Word>): Bool { match x13 { E13(x12) => match x12 { E12(x11) => match x11 { E11(x10) => match x10 { E10(x9) => match x9 { E9(x8) => match x8 { E8(x7) => match x7 { E7(x6) => match x6 { E6(x5) => match x5 { E5(x4) => match x4 { E4(x3) => match x3 { E3(x2) => match x2 { E2(x1) => match x1 { E1(x0) => match x0 { E0(y) => True } } } } } } } } } } } } } } }\n",
         "checked: datatypes 15, definitions 1, obligations 0\n",
     ),
 ];
@@ -313,22 +313,22 @@ replica s: Bool from True by three\n",
     ),
     (
         b"data P<A, B> { Two(A, B) }\n\
-data D0<A> { E0(A) }\n\
-data D1<A> { E1(D0<P<A, A>>) }\n\
-data D2<A> { E2(D1<P<A, A>>) }\n\
-data D3<A> { E3(D2<P<A, A>>) }\n\
-data D4<A> { E4(D3<P<A, A>>) }\n\
-data D5<A> { E5(D4<P<A, A>>) }\n\
-data D6<A> { E6(D5<P<A, A>>) }\n\
-data D7<A> { E7(D6<P<A, A>>) }\n\
-data D8<A> { E8(D7<P<A, A>>) }\n\
-data D9<A> { E9(D8<P<A, A>>) }\n\
-data D10<A> { E10(D9<P<A, A>>) }\n\
-data D11<A> { E11(D10<P<A, A>>) }\n\
-data D12<A> { E12(D11<P<A, A>>) }\n\
-data D13<A> { E13(D12<P<A, A>>) }\n\
-data D14<A> { E14(D13<P<A, A>>) }\n\
-def f(x14: D14<Word>): Bool { match x14 { E14(x13) => match x13 { E13(x12) => match x12 { E12(x11) => match x11 { E11(x10) => match x10 { E10(x9) => match x9 { E9(x8) => match x8 { E8(x7) => match x7 { E7(x6) => match x6 { E6(x5) => match x5 { E5(x4) => match x4 { E4(x3) => match x3 { E3(x2) => match x2 { E2(x1) => match x1 { E1(x0) => match x0 { E0(y) => True } } } } } } } } } } } } } } } }\n",
+data Q0<A> { E0(A) }\n\
+data Q1<A> { E1(Q0<P<A, A>>) }\n\
+data Q2<A> { E2(Q1<P<A, A>>) }\n\
+data Q3<A> { E3(Q2<P<A, A>>) }\n\
+data Q4<A> { E4(Q3<P<A, A>>) }\n\
+data Q5<A> { E5(Q4<P<A, A>>) }\n\
+data Q6<A> { E6(Q5<P<A, A>>) }\n\
+data Q7<A> { E7(Q6<P<A, A>>) }\n\
+data Q8<A> { E8(Q7<P<A, A>>) }\n\
+data Q9<A> { E9(Q8<P<A, A>>) }\n\
+data Q10<A> { E10(Q9<P<A, A>>) }\n\
+data Q11<A> { E11(Q10<P<A, A>>) }\n\
+data Q12<A> { E12(Q11<P<A, A>>) }\n\
+data Q13<A> { E13(Q12<P<A, A>>) }\n\
+data Q14<A> { E14(Q13<P<A, A>>) }\n\
+def f(x14: Q14<Word>): Bool { match x14 { E14(x13) => match x13 { E13(x12) => match x12 { E12(x11) => match x11 { E11(x10) => match x10 { E10(x9) => match x9 { E9(x8) => match x8 { E8(x7) => match x7 { E7(x6) => match x6 { E6(x5) => match x5 { E5(x4) => match x4 { E4(x3) => match x3 { E3(x2) => match x2 { E2(x1) => match x1 { E1(x0) => match x0 { E0(y) => True } } } } } } } } } } } } } } } }\n",
         "source: type oversize at 827\n",
     ),
 ];
