@@ -1,4 +1,4 @@
-ghost use Rattle.std.specs.Prelude.{◌≡◌, IfOk};
+ghost use Rattle.std.specs.Prelude.{◌≡◌, IfOk, []};
 
 use crate::clause::{Equation, EquationList};
 use crate::term::Term;
@@ -6,6 +6,14 @@ use crate::types::{FnType, Fun, Ty};
 use px_base::NoMemory;
 use sqlite_items::{Boxed, Items};
 use std::alloc::Global;
+
+/// An empty list that has room for so many parts, so that a list of known length takes no more memory than its parts. It takes that memory,
+/// and fails only where there is none.
+pub(crate) fn room_for<T>(alloc: Global, count: usize) -> Result<Items<T>, NoMemory>
+    ensures { IfOk result (λ items. items ≡ []) }
+{
+    Ok(Items::from_vec(Vec::with_capacity(alloc, count)?))
+}
 
 /// A copy of the type. It takes memory, and fails only where there is none.
 #[cycle(copy_ty)]
@@ -27,7 +35,7 @@ pub fn copy_ty(alloc: Global, ty: &Ty) -> Result<Ty, NoMemory>
 pub fn copy_tys(alloc: Global, types: &[Ty]) -> Result<Items<Ty>, NoMemory>
     ensures { IfOk result (λ r. r ≡ types.now) }
 {
-    let mut copies = Items::new(alloc);
+    let mut copies = room_for(alloc, types.len())?;
     for ty in types {
         copies.push(copy_ty(alloc, ty)?)?;
     }
@@ -124,7 +132,7 @@ pub fn copy(alloc: Global, t: &Term) -> Result<Term, NoMemory>
 pub fn copy_terms(alloc: Global, terms: &[Term]) -> Result<Items<Term>, NoMemory>
     ensures { IfOk result (λ r. r ≡ terms.now) }
 {
-    let mut copies = Items::new(alloc);
+    let mut copies = room_for(alloc, terms.len())?;
     for t in terms {
         copies.push(copy(alloc, t)?)?;
     }

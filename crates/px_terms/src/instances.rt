@@ -3,7 +3,7 @@ ghost use Rattle.px_terms.specs.Types.{fun_instance, fun_with_types, ty_instance
 ghost use Rattle.px_terms.specs.Terms.{term_instance};
 
 use crate::clause::Sigma;
-use crate::copying::{copy, copy_fun, copy_ty};
+use crate::copying::{copy, copy_fun, copy_ty, room_for};
 use crate::term::Term;
 use crate::types::{Fun, Ty};
 use px_base::{Head, NoMemory};
@@ -35,7 +35,7 @@ pub fn instance_of_ty(alloc: Global, ty: &Ty, types: &[Ty]) -> Result<Ty, NoMemo
 pub fn instance_of_tys(alloc: Global, tys: &[Ty], types: &[Ty]) -> Result<Items<Ty>, NoMemory>
     ensures { IfOk result (λ r. r ≡ tys_instance types.now tys.now) }
 {
-    let mut done = Items::new(alloc);
+    let mut done = room_for(alloc, tys.len())?;
     for ty in tys {
         done.push(instance_of_ty(alloc, ty, types)?)?;
     }
