@@ -3,7 +3,7 @@ use Rattle.std.proofs.Common.{◌≡◌, ℕ, List, Option, Some, None, Result, 
 use Rattle.std.specs.Prelude.{IfOk, MatchResult}
 use Rattle.px_base.specs.declared.names.Names.{Names}
 use Rattle.px_base.specs.Lawful.{IsLawful}
-use Rattle.px_derive.specs.declared.row.Row.{Row}
+use Rattle.px_terms.specs.declared.row.Row.{Row}
 use Rattle.px_derive.specs.declared.line_end.LineEnd.{LineEnd}
 use Rattle.px_derive.specs.declared.line_end.LineEnd.TheVariants.{Form, NoMemory}
 use Rattle.px_derive.specs.Spelling.{line_of}

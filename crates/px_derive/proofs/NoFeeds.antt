@@ -32,8 +32,8 @@ use Rattle.px_terms.specs.declared.row.Ref.{Ref}
 use Rattle.px_terms.specs.declared.row.Ref.TheVariants as reference
 use Rattle.px_terms.specs.Spelling.{side_letter, target_word, path_word, kind_words, on_words}
 use Rattle.px_terms.specs.Readable.{AreSmall, IsReadableTarget, IsReadableKind}
-use Rattle.px_derive.specs.declared.row.Row.{Row}
-use Rattle.px_derive.specs.declared.row.Row.TheVariants as row
+use Rattle.px_terms.specs.declared.row.Row.{Row}
+use Rattle.px_terms.specs.declared.row.Row.TheVariants as row
 use Rattle.px_derive.specs.Spelling.{name_at, constructors_at, commas, between, in_angles, in_parentheses, in_brackets, ty_text, head_text, fun_text, term_text, prop_word, sigma_words, note_words, line_of}
 use Rattle.px_derive.specs.Spellable.{IsNumberOf, IsConstructorOf, IsSpellableType, AreSpellableTypes, word, variable, datatype, no_types, more_types, IsSpellableHead, IsSpellableFunction, IsSpellableTerm, AreSpellableTerms, free, literal, construction, call, no_terms, more_terms, IsRowType, IsRowFunction, IsRowTerm, IsRowSigma, IsSpellableNote, IsSpellable}
 use Rattle.px_derive.proofs.NumberFacts.{AreDigits, own}

@@ -3,7 +3,7 @@ use Rattle.std.proofs.Common.{◌≡◌, ℕ, Bool, true, false, List, [], ◌�
 use Rattle.std.specs.List.{AllByRecursion}
 use Rattle.std.proofs.lemmas.Bool.Decides.{Decides-eqb}
 use Rattle.px_base.specs.declared.names.Names.{Names}
-use Rattle.px_derive.specs.declared.row.Row.{Row}
+use Rattle.px_terms.specs.declared.row.Row.{Row}
 use Rattle.px_derive.specs.Spelling.{line_of, lines_of}
 use Rattle.px_derive.specs.Spellable.{IsSpellable}
 use Rattle.px_derive.specs.Reading.{line_row}

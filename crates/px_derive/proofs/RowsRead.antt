@@ -16,8 +16,8 @@ use Rattle.px_terms.specs.declared.row.Ref.{Ref}
 use Rattle.px_terms.specs.declared.row.Ref.TheVariants as reference
 use Rattle.px_terms.specs.Spelling.{target_word, path_word, kind_words, on_words}
 use Rattle.px_terms.specs.Readable.{AreSmall, IsReadableTarget, IsReadableKind}
-use Rattle.px_derive.specs.declared.row.Row.{Row}
-use Rattle.px_derive.specs.declared.row.Row.TheVariants as row
+use Rattle.px_terms.specs.declared.row.Row.{Row}
+use Rattle.px_terms.specs.declared.row.Row.TheVariants as row
 use Rattle.px_derive.specs.Spelling.{name_at, head_text, prop_word, commas, in_brackets, ty_text, fun_text, term_text, sigma_words, note_words, line_of}
 use Rattle.px_derive.specs.Spellable.{IsRowType, IsRowFunction, IsRowTerm, IsRowSigma, IsHypothesisSigma, IsSpellableNote, IsSpellable}
 use Rattle.px_derive.specs.Readers.{Reader, pure, skip, after, push, gather, list_at, closed_at}

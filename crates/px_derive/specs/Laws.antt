@@ -3,7 +3,7 @@ use Rattle.std.specs.Prelude.{◌≡◌, List, Contains}
 use Rattle.std.specs.List.{AllByRecursion}
 use Rattle.px_base.specs.declared.names.Names.{Names}
 use Rattle.px_base.specs.Lawful.{IsLawful}
-use Rattle.px_derive.specs.declared.row.Row.{Row}
+use Rattle.px_terms.specs.declared.row.Row.{Row}
 use Rattle.px_derive.specs.Spelling.{line_of, lines_of}
 use Rattle.px_derive.specs.Spellable.{IsSpellable}
 

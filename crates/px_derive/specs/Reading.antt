@@ -24,8 +24,8 @@ use Rattle.px_terms.specs.declared.row.Kind.{Kind}
 use Rattle.px_terms.specs.declared.row.Kind.TheVariants as kind
 use Rattle.px_terms.specs.declared.row.Ref.{Ref}
 use Rattle.px_terms.specs.declared.row.Ref.TheVariants as reference
-use Rattle.px_derive.specs.declared.row.Row.{Row}
-use Rattle.px_derive.specs.declared.row.Row.TheVariants as row
+use Rattle.px_terms.specs.declared.row.Row.{Row}
+use Rattle.px_terms.specs.declared.row.Row.TheVariants as row
 use Rattle.px_derive.specs.declared.terms.Argument.{Argument}
 use Rattle.px_derive.specs.declared.terms.Argument.TheVariants.{Function, Value}
 use Rattle.px_derive.specs.declared.terms.Arguments.{Arguments}

@@ -17,8 +17,8 @@ use Rattle.px_terms.specs.declared.row.Ref.TheVariants as reference
 use Rattle.px_terms.specs.Types.{ty_depth, tys_depth}
 use Rattle.px_terms.specs.Terms.{term_depth}
 use Rattle.px_terms.specs.Readable.{AreSmall, IsReadableTarget, IsReadableKind}
-use Rattle.px_derive.specs.declared.row.Row.{Row}
-use Rattle.px_derive.specs.declared.row.Row.TheVariants as row
+use Rattle.px_terms.specs.declared.row.Row.{Row}
+use Rattle.px_terms.specs.declared.row.Row.TheVariants as row
 use Rattle.px_derive.specs.Spelling.{constructors_at, line_of}
 
 -- one of these has this number

@@ -18,9 +18,9 @@ use Rattle.px_terms.specs.declared.clause.Sigma.{Sigma}
 use Rattle.px_terms.specs.declared.row.Ref.{Ref}
 use Rattle.px_terms.specs.declared.row.Ref.TheVariants as reference
 use Rattle.px_terms.specs.Spelling.{target_word, path_word, kind_words, on_words}
-use Rattle.px_derive.specs.declared.row.Row.{Row}
-use Rattle.px_derive.specs.declared.row.Row.TheVariants as row
-use Rattle.px_derive.specs.declared.row.Tree.{Tree}
+use Rattle.px_terms.specs.declared.row.Row.{Row}
+use Rattle.px_terms.specs.declared.row.Row.TheVariants as row
+use Rattle.px_terms.specs.declared.row.Tree.{Tree}
 
 -- the name of this number
 abbrev pub name_at : List (List ℕ) → ℕ → List ℕ

@@ -15,7 +15,6 @@ mod numbers;
 mod printing;
 mod reading;
 mod rest;
-mod row;
 mod runs;
 mod terms;
 #[cfg(test)]
@@ -27,5 +26,5 @@ pub use laws::{no_line_feed, one_list, one_row};
 pub use line_end::LineEnd;
 pub use lines::{Piece, next_line};
 pub use reading::read_line;
-pub use row::{Row, Tree};
+pub use px_terms::{Row, Tree};
 pub use trees::print_tree;

@@ -5,18 +5,17 @@ ghost use Rattle.px_derive.specs.Gives.{left, Gives, Answers};
 ghost use Rattle.px_derive.specs.Reading.{brackets_at, tys_at, funs_at, terms_at, sigma_at, step_at, header_at, note_at, hypothesis_at, split_at, wide_row_at, row_at, line_row};
 ghost use Rattle.px_derive.specs.Spellable.{IsSpellable, IsNoLine};
 ghost use Rattle.px_derive.specs.Spelling.{line_of};
-ghost use Rattle.px_derive.specs.declared.row.Row.{Row as TheRow};
+ghost use Rattle.px_terms.specs.declared.row.Row.{Row as TheRow};
 ghost use Rattle.px_derive.specs.declared.line_end.LineEnd.TheVariants.{NoMemory};
 
 use crate::fields::{read_kind, read_path, read_reference, read_target, read_variables};
 use crate::line_end::LineEnd;
 use crate::rest::Rest;
-use crate::row::Row;
 use crate::terms::{read_term, read_terms};
 use crate::types::{read_funs, read_types};
 use px_base::Names;
 use px_base::limits::ROW_DEPTH;
-use px_terms::{Fun, Ref, Sigma, Term, Ty};
+use px_terms::{Fun, Ref, Row, Sigma, Term, Ty};
 use sqlite_items::Items;
 use std::alloc::Global;
 

@@ -7,9 +7,8 @@ ghost use Rattle.px_derive.specs.Spelling.{in_brackets, term_text, prop_word, si
 use crate::printing::{
     print_funs, print_head, print_name, print_numbered, print_term, print_terms, print_types,
 };
-use crate::row::{Row, Tree};
 use px_base::{Names, NoMemory, Prop};
-use px_terms::{Kind, Ref, Side, Sigma, Target, Term};
+use px_terms::{Kind, Ref, Row, Side, Sigma, Target, Term, Tree};
 use px_world::Bytes;
 use std::alloc::Global;
 

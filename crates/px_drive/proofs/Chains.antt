@@ -2,7 +2,7 @@
 use Rattle.std.proofs.Common.{◌≡◌, ◌≤◌, ℕ, List, Option, Result, Ok, Err, IsErrAnd, arith, subst, sym}
 use Rattle.px_world.specs.declared.files.Files as files
 use Rattle.px_terms.specs.declared.program.Program.{Program}
-use Rattle.px_terms.specs.Spelling.{IsDerivationText}
+use Rattle.px_terms.specs.PlainSpelling.{IsDerivationText}
 use Rattle.px_replay.specs.declared.replay.ReplayEnd.{ReplayEnd}
 use Rattle.px_replay.specs.declared.replay.ReplayEnd.TheVariants as replaying
 use Rattle.px_drive.specs.declared.outcome.CommandLine.{CommandLine}

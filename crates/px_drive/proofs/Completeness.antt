@@ -2,7 +2,7 @@
 use Rattle.std.proofs.Common.{◌≡◌, ℕ, ◌⊎◌, List, Option, None, Some, Result, Ok, Err, inl, inr, refl, ap, subst, sym, ◌∙◌}
 use Rattle.px_terms.specs.declared.program.Program.{Program}
 use Rattle.px_terms.specs.Plain.{IsPlainProgram}
-use Rattle.px_terms.specs.Spelling.{IsDerivationText}
+use Rattle.px_terms.specs.PlainSpelling.{IsDerivationText}
 use Rattle.px_world.specs.Faults.{Rose}
 use Rattle.px_drive.specs.declared.outcome.CommandLine.{CommandLine}
 use Rattle.px_drive.specs.declared.outcome.CommandLine.TheVariants.{Check, Replay}

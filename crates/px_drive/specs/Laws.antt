@@ -3,7 +3,7 @@ use Rattle.std.specs.Prelude.{◌≡◌, ◌≢◌, ℕ, ◌<◌, ◌≤◌, ◌
 use Rattle.px_terms.specs.declared.program.Program.{Program}
 use Rattle.px_terms.specs.Obligations.{AllHold}
 use Rattle.px_terms.specs.Plain.{IsPlainProgram}
-use Rattle.px_terms.specs.Spelling.{IsDerivationText}
+use Rattle.px_terms.specs.PlainSpelling.{IsDerivationText}
 use Rattle.px_world.specs.Known.{Told, IsLonger}
 use Rattle.px_scope.specs.declared.ends.ScopeKind.{ScopeKind}
 use Rattle.px_drive.specs.declared.outcome.CommandLine.{CommandLine}

@@ -6,14 +6,14 @@ use Rattle.px_terms.specs.declared.clause.Clause.{Clause}
 use Rattle.px_terms.specs.declared.program.Declared.{Declared}
 use Rattle.px_terms.specs.declared.program.Program.{Program}
 use Rattle.px_terms.specs.declared.sequent.Sequent.{Sequent}
-use Rattle.px_terms.specs.declared.row.Row.{Row}
-use Rattle.px_terms.specs.declared.row.Row.TheVariants as row
+use Rattle.px_terms.specs.declared.row.PlainRow.{PlainRow}
+use Rattle.px_terms.specs.declared.row.PlainRow.TheVariants as row
 use Rattle.px_terms.specs.declared.term.Term.TheVariants as term
 use Rattle.px_terms.specs.Obligations.{IsDeclaredClause}
 use Rattle.px_terms.specs.Sequents.{IsWithinLimits, first_sequent, own_frame}
-use Rattle.px_terms.specs.Derivations.{Opens, Leads, goes_on, Tree, DerivesObligation, StackIsTree, rows_of, same, step, case}
+use Rattle.px_terms.specs.PlainDerivations.{Opens, Leads, goes_on, Tree, DerivesObligation, StackIsTree, rows_of, same, step, case}
 use Rattle.px_terms.specs.Readable.{IsReadable}
-use Rattle.px_terms.specs.Spelling.{line_of, lines_of, rows_from, IsDerivationText}
+use Rattle.px_terms.specs.PlainSpelling.{line_of, lines_of, rows_from, IsDerivationText}
 use Rattle.px_replay.specs.declared.opened.Open.{Open}
 use Rattle.px_soundness.specs.Laws.{OneClause}
 use Rattle.px_terms.specs.Numbered.{HasNumbers, HasNumberedVariables}
@@ -23,14 +23,14 @@ use Rattle.px_replay.proofs.Lists.{found_one}
 
 -- The text begins with rows that derive all of these sequents, and then comes the rest.
 pub record Closes (P : Program) (n : ℕ) (sequents : List Sequent) (text rest : List ℕ) : Type 0 where
-  pub rows : List Row
+  pub rows : List PlainRow
   pub readable : All IsReadable rows
   pub leads : Leads P n sequents rows []
   pub lines : text ≡ lines_of rows ++ rest
 
 -- The first of these rows, and what closes the rest.
 pub record FirstRow (P : Program) (n : ℕ) (s : Sequent) (below : List Sequent) (text rest : List ℕ) : Type 0 where
-  pub row : Row
+  pub row : PlainRow
   pub children : List Sequent
   pub later : List ℕ
   pub readable : IsReadable row
@@ -44,7 +44,7 @@ no_rows P n s below leads = elim leads [ ]
 pub first_row : (P : Program) (n : ℕ) (s : Sequent) (below : List Sequent) (text rest : List ℕ) → Closes P n (s ∷ below) text rest → FirstRow P n s below text rest
 first_row P n s below text rest closes = by closes.rows closes.readable closes.leads closes.lines
   where
-    by : (rows : List Row) → All IsReadable rows → Leads P n (s ∷ below) rows [] → text ≡ lines_of rows ++ rest → FirstRow P n s below text rest
+    by : (rows : List PlainRow) → All IsReadable rows → Leads P n (s ∷ below) rows [] → text ≡ lines_of rows ++ rest → FirstRow P n s below text rest
     by [] readable leads lines = absurd (no_rows P n s below leads)
     by (r ∷ rows) readable (goes_on {children = children} opens leads) lines = record {
       row = r;
@@ -57,7 +57,7 @@ first_row P n s below text rest closes = by closes.rows closes.readable closes.l
     }
 
 -- the children of a row are within the limits
-pub children_are_small : (P : Program) (n : ℕ) (s : Sequent) (r : Row) (children : List Sequent) → Opens P n s r children → All IsWithinLimits children
+pub children_are_small : (P : Program) (n : ℕ) (s : Sequent) (r : PlainRow) (children : List Sequent) → Opens P n s r children → All IsWithinLimits children
 children_are_small P n s _ _ (same found equal) = All-nil IsWithinLimits
 children_are_small P n s _ _ (step {child = child} found steps is small) = All-cons IsWithinLimits child [] small (All-nil IsWithinLimits)
 children_are_small P n s _ _ (case d args typed declared is small) = small
@@ -85,7 +85,7 @@ closes_on P n s popped new text rest now first now_is new_is =
 pub all_closed : (P : Program) (n : ℕ) (text rest : List ℕ) → Closes P n [] text rest → text ≡ rest
 all_closed P n text rest closes = by closes.rows closes.leads closes.lines
   where
-    by : (rows : List Row) → Leads P n [] rows [] → text ≡ lines_of rows ++ rest → text ≡ rest
+    by : (rows : List PlainRow) → Leads P n [] rows [] → text ≡ lines_of rows ++ rest → text ≡ rest
     by [] leads lines = lines
     by (r ∷ rows) leads lines = elim leads [ ]
 
@@ -101,7 +101,7 @@ pub record ObligationDue (P : Program) (n : ℕ) (o : Declared) (text rest : Lis
   pub header : text ≡ line_of (row.Header n []) ++ 10 ∷ later
   pub replayed : HasReplayed P n (first_sequent clause (record { entries = [] })) [] later rest
 
-pub obligation_due : (P : Program) (n : ℕ) (o : Declared) (text rest : List ℕ) → slice_get P.declared n ≡ Some o → HasNumbers P → ((s : Sequent) (rows : List Row) → StackIsTree P n s rows) → ReplaysObligation P n text rest → ObligationDue P n o text rest
+pub obligation_due : (P : Program) (n : ℕ) (o : Declared) (text rest : List ℕ) → slice_get P.declared n ≡ Some o → HasNumbers P → ((s : Sequent) (rows : List PlainRow) → StackIsTree P n s rows) → ReplaysObligation P n text rest → ObligationDue P n o text rest
 obligation_due P n o text rest found numbers law replays =
     let derives = replays.derives in
     let tree = replays.tree in
@@ -158,11 +158,11 @@ pub record NextTree (P : Program) (n : ℕ) (rest : List ℕ) : Type 0 where
   pub replays : ReplaysObligation P n rest later
   pub others : IsRestOf P (n + 1) later
 
-readable_front : (xs ys : List Row) → All IsReadable (xs ++ ys) → All IsReadable xs
+readable_front : (xs ys : List PlainRow) → All IsReadable (xs ++ ys) → All IsReadable xs
 readable_front [] ys all = All-nil IsReadable
 readable_front (x ∷ xs) ys all = All-cons IsReadable x xs (All-head IsReadable x (xs ++ ys) all) (readable_front xs ys (All-tail IsReadable x (xs ++ ys) all))
 
-readable_back : (xs ys : List Row) → All IsReadable (xs ++ ys) → All IsReadable ys
+readable_back : (xs ys : List PlainRow) → All IsReadable (xs ++ ys) → All IsReadable ys
 readable_back [] ys all = all
 readable_back (x ∷ xs) ys all = readable_back xs ys (All-tail IsReadable x (xs ++ ys) all)
 
@@ -172,9 +172,9 @@ next_tree P n rest more is = by is.trees is.count is.each is.readable is.spelled
     by : (trees : List Tree) → n + length trees ≡ length P.declared → ((i : ℕ) (tree : Tree) → slice_get trees i ≡ Some tree → DerivesObligation P (n + i) tree) → All IsReadable (rows_from n trees) → rest ≡ lines_of (rows_from n trees) → NextTree P n rest
     by [] count each readable spelled = absurd (omega (arith, count, more))
     by (tree ∷ trees) count each readable spelled =
-        let rows : List Row = row.Header n tree.on ∷ rows_of tree.root in
-        let others : List Row = rows_from (n + 1) trees in
-        let split : lines_of (rows ++ others) ≡ lines_of rows ++ lines_of others = flat_map-append (λ (q : Row). line_of q ++ 10 ∷ []) rows others in
+        let rows : List PlainRow = row.Header n tree.on ∷ rows_of tree.root in
+        let others : List PlainRow = rows_from (n + 1) trees in
+        let split : lines_of (rows ++ others) ≡ lines_of rows ++ lines_of others = flat_map-append (λ (q : PlainRow). line_of q ++ 10 ∷ []) rows others in
         let fewer : (n + 1) + length trees ≡ length P.declared = omega (arith, count) in
         record {
           later = lines_of others;

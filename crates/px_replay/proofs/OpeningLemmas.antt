@@ -18,11 +18,11 @@ use Rattle.px_terms.specs.declared.sequent.Sequent.{Sequent}
 use Rattle.px_terms.specs.declared.row.Side.{Side}
 use Rattle.px_terms.specs.declared.row.Kind.{Kind}
 use Rattle.px_terms.specs.declared.row.Target.TheVariants as target
-use Rattle.px_terms.specs.declared.row.Row.{Row}
-use Rattle.px_terms.specs.declared.row.Row.TheVariants as row
+use Rattle.px_terms.specs.declared.row.PlainRow.{PlainRow}
+use Rattle.px_terms.specs.declared.row.PlainRow.TheVariants as row
 use Rattle.px_terms.specs.Sequents.{side_of, with_alternative_side, IsWithinLimits}
-use Rattle.px_terms.specs.Steps.{Step}
-use Rattle.px_terms.specs.Derivations.{Opens, same, step, case, fresh_constructor, case_of, cases_from}
+use Rattle.px_terms.specs.PlainSteps.{Step}
+use Rattle.px_terms.specs.PlainDerivations.{Opens, same, step, case, fresh_constructor, case_of, cases_from}
 use Rattle.px_replay.specs.Replays.{put_case, SidesAreOne, StepsSide}
 use Rattle.px_terms.specs.TreeEdits.{with_side}
 use Rattle.px_replay.proofs.Lists.{found_one}
@@ -45,13 +45,13 @@ pub record CasesFit (P : Program) (s : Sequent) (v : ℕ) : Type 0 where
   pub small : All IsWithinLimits (cases_from s v d args 0 D.cons)
 
 -- what a row needs that opens a sequent, by the row
-abbrev pub Needs : Program → Sequent → Row → Type 0
+abbrev pub Needs : Program → Sequent → PlainRow → Type 0
 Needs P s (row.Same j) = SidesAreOne s j
 Needs P s (row.Step (target.Alternative j side) path k) = StepsTo P s j side path k
 Needs P s (row.CaseVar v) = CasesFit P s v
 Needs P s _ = ⊥
 
-pub needs : (P : Program) (n : ℕ) (s : Sequent) (r : Row) (children : List Sequent) → Opens P n s r children → Needs P s r
+pub needs : (P : Program) (n : ℕ) (s : Sequent) (r : PlainRow) (children : List Sequent) → Opens P n s r children → Needs P s r
 needs P n s _ _ (same {e = e} found equal) = record { equation = e; found = found; one = equal }
 needs P n s _ _ (step {e = e} {t = t} found steps child small) = record { t = t; steps = record { equation = e; found = found; step = steps }; small = subst IsWithinLimits child small }
 needs P n s _ _ (case {D = D} d args typed declared is small) = record { d = d; args = args; D = D; typed = typed; declared = declared; small = subst (All IsWithinLimits) is small }

@@ -8,13 +8,13 @@ use Rattle.px_terms.specs.declared.clause.Clause.{Clause}
 use Rattle.px_terms.specs.declared.program.Declared.{Declared}
 use Rattle.px_terms.specs.declared.program.Program.{Program}
 use Rattle.px_terms.specs.declared.sequent.Sequent.{Sequent}
-use Rattle.px_terms.specs.declared.row.Row.{Row}
-use Rattle.px_terms.specs.declared.row.Row.TheVariants as row
+use Rattle.px_terms.specs.declared.row.PlainRow.{PlainRow}
+use Rattle.px_terms.specs.declared.row.PlainRow.TheVariants as row
 use Rattle.px_terms.specs.Obligations.{IsDeclaredClause}
 use Rattle.px_terms.specs.Sequents.{IsWithinLimits, first_sequent}
-use Rattle.px_terms.specs.Derivations.{Opens, Leads, stays, goes_on, Tree, Derives, DerivesObligation, StackIsTree, rows_of}
+use Rattle.px_terms.specs.PlainDerivations.{Opens, Leads, stays, goes_on, Tree, Derives, DerivesObligation, StackIsTree, rows_of}
 use Rattle.px_terms.specs.Readable.{IsReadable}
-use Rattle.px_terms.specs.Spelling.{line_of, lines_of, rows_from, IsDerivationText}
+use Rattle.px_terms.specs.PlainSpelling.{line_of, lines_of, rows_from, IsDerivationText}
 use Rattle.px_replay.specs.declared.opened.Open.{Open}
 use Rattle.px_replay.specs.Replays.{IsRightlyMarked, child_within, sequents_of, ReplaysRow, HasReplayed, ReplaysObligation, ReplaysBelow}
 
@@ -29,16 +29,16 @@ all_reverse P [] all = All-nil P
 all_reverse P (x ∷ xs) all = subst (All P) (sym (reverse-cons x xs)) (All-push P (reverse xs) x (all_reverse P xs (All-tail P x xs all)) (All-head P x xs all))
 
 -- rows lead on by one more row
-leads_last : (P : Program) (n : ℕ) (first : List Sequent) (rows : List Row) (after : List Sequent) (s : Sequent) (below : List Sequent) (r : Row) (children : List Sequent) → Leads P n first rows after → after ≡ s ∷ below → Opens P n s r children → Leads P n first (rows ++ r ∷ []) (children ++ below)
+leads_last : (P : Program) (n : ℕ) (first : List Sequent) (rows : List PlainRow) (after : List Sequent) (s : Sequent) (below : List Sequent) (r : PlainRow) (children : List Sequent) → Leads P n first rows after → after ≡ s ∷ below → Opens P n s r children → Leads P n first (rows ++ r ∷ []) (children ++ below)
 leads_last P n first [] after s below r children stays is opens = subst (λ (stack : List Sequent). Leads P n stack (r ∷ []) (children ++ below)) (sym is) (goes_on opens stays)
 leads_last P n [] (q ∷ rows) after s below r children leads is opens = elim leads [ ]
 leads_last P n (t ∷ others) (q ∷ rows) after s below r children (goes_on {children = inner} first_opens leads) is opens = goes_on first_opens (leads_last P n (inner ++ others) rows after s below r children leads is opens)
 
 -- the text of one more row
-lines_last : (rows : List Row) (r : Row) (rest : List ℕ) → lines_of (rows ++ r ∷ []) ++ rest ≡ lines_of rows ++ (line_of r ++ 10 ∷ rest)
+lines_last : (rows : List PlainRow) (r : PlainRow) (rest : List ℕ) → lines_of (rows ++ r ∷ []) ++ rest ≡ lines_of rows ++ (line_of r ++ 10 ∷ rest)
 lines_last rows r rest =
-    let line = λ (q : Row). line_of q ++ 10 ∷ [] in
-    let whole : lines_of (rows ++ r ∷ []) ≡ lines_of rows ++ (line_of r ++ 10 ∷ []) = flat_map-append (λ (q : Row). line_of q ++ 10 ∷ []) rows (r ∷ []) ∙ ap (λ (bytes : List ℕ). lines_of rows ++ bytes) (append-nil (line_of r ++ 10 ∷ [])) in
+    let line = λ (q : PlainRow). line_of q ++ 10 ∷ [] in
+    let whole : lines_of (rows ++ r ∷ []) ≡ lines_of rows ++ (line_of r ++ 10 ∷ []) = flat_map-append (λ (q : PlainRow). line_of q ++ 10 ∷ []) rows (r ∷ []) ∙ ap (λ (bytes : List ℕ). lines_of rows ++ bytes) (append-nil (line_of r ++ 10 ∷ [])) in
     ap (λ (bytes : List ℕ). bytes ++ rest) whole ∙ (append_assoc (lines_of rows) (line_of r ++ 10 ∷ []) rest ∙ ap (λ (bytes : List ℕ). lines_of rows ++ bytes) (append_assoc (line_of r) (10 ∷ []) rest))
 
 -- the sequents of children
@@ -93,11 +93,11 @@ row_takes P n s old new rest later one =
     omega (arith, e)
 
 -- the text of a row before others
-pub lines-cons : (h : Row) (rows : List Row) (rest : List ℕ) → line_of h ++ 10 ∷ (lines_of rows ++ rest) ≡ lines_of (h ∷ rows) ++ rest
+pub lines-cons : (h : PlainRow) (rows : List PlainRow) (rest : List ℕ) → line_of h ++ 10 ∷ (lines_of rows ++ rest) ≡ lines_of (h ∷ rows) ++ rest
 lines-cons h rows rest = sym (append_assoc (line_of h ++ 10 ∷ []) (lines_of rows) rest ∙ append_assoc (line_of h) (10 ∷ []) (lines_of rows ++ rest))
 
 -- the header and the rows of a tree were replayed
-pub replayed_obligation : (P : Program) (n : ℕ) (declared : Declared) (clause : Clause) (first : Sequent) (text rows_text rest : List ℕ) → n < 2 ^ 32 → slice_get P.declared n ≡ Some declared → IsDeclaredClause P declared clause → first ≡ first_sequent clause (record { entries = [] }) → text ≡ line_of (row.Header n []) ++ 10 ∷ rows_text → HasReplayed P n first [] rows_text rest → ((s : Sequent) (rows : List Row) → StackIsTree P n s rows) → ReplaysObligation P n text rest
+pub replayed_obligation : (P : Program) (n : ℕ) (declared : Declared) (clause : Clause) (first : Sequent) (text rows_text rest : List ℕ) → n < 2 ^ 32 → slice_get P.declared n ≡ Some declared → IsDeclaredClause P declared clause → first ≡ first_sequent clause (record { entries = [] }) → text ≡ line_of (row.Header n []) ++ 10 ∷ rows_text → HasReplayed P n first [] rows_text rest → ((s : Sequent) (rows : List PlainRow) → StackIsTree P n s rows) → ReplaysObligation P n text rest
 replayed_obligation P n declared clause first text rows_text rest small number says first_is header replayed law =
     let tree = (law first replayed.rows).tree_of replayed.leads in
     record {
@@ -109,7 +109,7 @@ replayed_obligation P n declared clause first text rows_text rest small number s
         derives = subst (λ (s : Sequent). Derives P n s tree.0) first_is tree.1;
       };
       readable = All-cons IsReadable (row.Header n []) (rows_of tree.0) (small, refl) (subst (All IsReadable) (sym tree.2) replayed.readable);
-      lines = header ∙ (ap (λ (bytes : List ℕ). line_of (row.Header n []) ++ 10 ∷ bytes) (replayed.lines ∙ ap (λ (rows : List Row). lines_of rows ++ rest) (sym tree.2)) ∙ lines-cons (row.Header n []) (rows_of tree.0) rest);
+      lines = header ∙ (ap (λ (bytes : List ℕ). line_of (row.Header n []) ++ 10 ∷ bytes) (replayed.lines ∙ ap (λ (rows : List PlainRow). lines_of rows ++ rest) (sym tree.2)) ∙ lines-cons (row.Header n []) (rows_of tree.0) rest);
     }
 
 slice_get-push : {X : Type 0} (xs : List X) (x y : X) (i : ℕ) (P : ℕ → X → Type 0) → ((i : ℕ) (z : X) → slice_get xs i ≡ Some z → P i z) → P (length xs) x → slice_get (xs ++ x ∷ []) i ≡ Some y → P i y
@@ -119,11 +119,11 @@ slice_get-push {X} (z ∷ xs) x y zero P each last found = each 0 y found
 slice_get-push {X} (z ∷ xs) x y (suc i) P each last found = slice_get-push xs x y i (λ k w. P (suc k) w) (λ k w e. each (suc k) w e) last found
 
 rows_from-push : (n : ℕ) (trees : List Tree) (tree : Tree) → rows_from n (trees ++ tree ∷ []) ≡ rows_from n trees ++ (row.Header (n + length trees) tree.on ∷ rows_of tree.root)
-rows_from-push n [] tree = ap (λ (rows : List Row). row.Header n tree.on ∷ rows) (append-nil (rows_of tree.root)) ∙ ap (λ (k : ℕ). row.Header k tree.on ∷ rows_of tree.root) (sym (add-zero n))
+rows_from-push n [] tree = ap (λ (rows : List PlainRow). row.Header n tree.on ∷ rows) (append-nil (rows_of tree.root)) ∙ ap (λ (k : ℕ). row.Header k tree.on ∷ rows_of tree.root) (sym (add-zero n))
 rows_from-push n (t ∷ trees) tree =
     let number : (n + 1) + length trees ≡ n + suc (length trees) = omega arith in
     let others : rows_from (n + 1) (trees ++ tree ∷ []) ≡ rows_from (n + 1) trees ++ row.Header (n + suc (length trees)) tree.on ∷ rows_of tree.root = rows_from-push (n + 1) trees tree ∙ ap (λ (k : ℕ). rows_from (n + 1) trees ++ row.Header k tree.on ∷ rows_of tree.root) number in
-    ap (λ (rows : List Row). row.Header n t.on ∷ (rows_of t.root ++ rows)) others ∙ ap (λ (rows : List Row). row.Header n t.on ∷ rows) (sym (append_assoc (rows_of t.root) (rows_from (n + 1) trees) (row.Header (n + suc (length trees)) tree.on ∷ rows_of tree.root)))
+    ap (λ (rows : List PlainRow). row.Header n t.on ∷ (rows_of t.root ++ rows)) others ∙ ap (λ (rows : List PlainRow). row.Header n t.on ∷ rows) (sym (append_assoc (rows_of t.root) (rows_from (n + 1) trees) (row.Header (n + suc (length trees)) tree.on ∷ rows_of tree.root)))
 
 -- no obligation was replayed yet
 pub begins_below : (P : Program) (text : List ℕ) → ReplaysBelow P 0 text text
@@ -133,7 +133,7 @@ begins_below P text = record { trees = []; count = refl; each = λ i tree found.
 pub goes_on_below : (P : Program) (n : ℕ) (text rest later : List ℕ) → ReplaysBelow P n text rest → ReplaysObligation P n rest later → ReplaysBelow P (n + 1) text later
 goes_on_below P n text rest later so_far one =
     let pushed : rows_from 0 (so_far.trees ++ one.tree ∷ []) ≡ rows_from 0 so_far.trees ++ (row.Header n one.tree.on ∷ rows_of one.tree.root) = rows_from-push 0 so_far.trees one.tree ∙ ap (λ (k : ℕ). rows_from 0 so_far.trees ++ (row.Header k one.tree.on ∷ rows_of one.tree.root)) (zero-add (length so_far.trees) ∙ so_far.count) in
-    let flat : lines_of (rows_from 0 (so_far.trees ++ one.tree ∷ [])) ≡ lines_of (rows_from 0 so_far.trees) ++ lines_of (row.Header n one.tree.on ∷ rows_of one.tree.root) = ap lines_of pushed ∙ flat_map-append (λ (q : Row). line_of q ++ 10 ∷ []) (rows_from 0 so_far.trees) (row.Header n one.tree.on ∷ rows_of one.tree.root) in
+    let flat : lines_of (rows_from 0 (so_far.trees ++ one.tree ∷ [])) ≡ lines_of (rows_from 0 so_far.trees) ++ lines_of (row.Header n one.tree.on ∷ rows_of one.tree.root) = ap lines_of pushed ∙ flat_map-append (λ (q : PlainRow). line_of q ++ 10 ∷ []) (rows_from 0 so_far.trees) (row.Header n one.tree.on ∷ rows_of one.tree.root) in
     record {
       trees = so_far.trees ++ one.tree ∷ [];
       count = length-append so_far.trees (one.tree ∷ []) ∙ ap (λ (k : ℕ). k + 1) so_far.count;

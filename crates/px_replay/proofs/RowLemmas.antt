@@ -14,10 +14,10 @@ use Rattle.px_terms.specs.declared.row.Side.{Side}
 use Rattle.px_terms.specs.declared.row.Side.TheVariants.{Left, Right}
 use Rattle.px_terms.specs.declared.row.Kind.{Kind}
 use Rattle.px_terms.specs.declared.row.Target.TheVariants as target
-use Rattle.px_terms.specs.declared.row.Row.TheVariants as row
+use Rattle.px_terms.specs.declared.row.PlainRow.TheVariants as row
 use Rattle.px_terms.specs.TreeEdits.{with_side}
 use Rattle.px_terms.specs.Sequents.{IsSmall, IsSmallEquation, IsWithinLimits}
-use Rattle.px_terms.specs.Derivations.{Opens, step, case_of, cases_from}
+use Rattle.px_terms.specs.PlainDerivations.{Opens, step, case_of, cases_from}
 use Rattle.px_replay.specs.declared.opened.Open.{Open}
 use Rattle.px_replay.specs.Replays.{StepsSide, child_within}
 

@@ -17,7 +17,7 @@ use Rattle.px_terms.specs.declared.row.Kind.TheVariants as kind
 use Rattle.px_terms.specs.Terms.{term_instance, term_size, subterm, replaced}
 use Rattle.px_terms.specs.Programs.{body_of}
 use Rattle.px_terms.specs.Sequents.{IsSmall}
-use Rattle.px_terms.specs.Steps.{Turns, unfolds, selects, Step}
+use Rattle.px_terms.specs.PlainSteps.{Turns, unfolds, selects, Step}
 use Rattle.px_replay.proofs.PartSizes.{part_size}
 
 -- a call of a definition becomes its body's instance

@@ -10,15 +10,15 @@ use Rattle.px_terms.specs.declared.program.Program.{Program}
 use Rattle.px_terms.specs.declared.sequent.Sequent.{Sequent}
 use Rattle.px_terms.specs.declared.row.Side.{Side}
 use Rattle.px_terms.specs.declared.row.Kind.{Kind}
-use Rattle.px_terms.specs.declared.row.Row.{Row}
-use Rattle.px_terms.specs.declared.row.Row.TheVariants as row
+use Rattle.px_terms.specs.declared.row.PlainRow.{PlainRow}
+use Rattle.px_terms.specs.declared.row.PlainRow.TheVariants as row
 use Rattle.px_terms.specs.TreeEdits.{equations_put}
 use Rattle.px_props.specs.Signatures.{IsCounted}
 use Rattle.px_replay.specs.declared.opened.Open.{Open}
 use Rattle.px_terms.specs.Sequents.{side_of, IsWithinLimits, frame_put}
-use Rattle.px_terms.specs.Steps.{Step}
-use Rattle.px_terms.specs.Derivations.{Opens, Leads, Tree, DerivesObligation, rows_of}
-use Rattle.px_terms.specs.Spelling.{line_of, lines_of, rows_from}
+use Rattle.px_terms.specs.PlainSteps.{Step}
+use Rattle.px_terms.specs.PlainDerivations.{Opens, Leads, Tree, DerivesObligation, rows_of}
+use Rattle.px_terms.specs.PlainSpelling.{line_of, lines_of, rows_from}
 use Rattle.px_terms.specs.Readable.{IsReadable}
 
 -- the definition of a declared property takes no more than words of 32 bits count
@@ -61,7 +61,7 @@ abbrev pub sequents_of : List Open → List Sequent
 sequents_of stack = map (λ (o : Open). o.sequent) (reverse stack)
 
 -- The row opens the sequent, and its children were put on the stack, the first on top.
-pub record Opened (P : Program) (n : ℕ) (s : Sequent) (r : Row) (old new : List Open) : Type 0 where
+pub record Opened (P : Program) (n : ℕ) (s : Sequent) (r : PlainRow) (old new : List Open) : Type 0 where
   pub children : List Sequent
   pub opens : Opens P n s r children
   pub stack : new ≡ old ++ map child_within (reverse children)
@@ -69,14 +69,14 @@ pub record Opened (P : Program) (n : ℕ) (s : Sequent) (r : Row) (old new : Lis
 
 -- The text begins with a row that opens the sequent, and then comes the rest.
 pub record ReplaysRow (P : Program) (n : ℕ) (s : Sequent) (old new : List Open) (text rest : List ℕ) : Type 0 where
-  pub row : Row
+  pub row : PlainRow
   pub opened : Opened P n s row old new
   pub readable : IsReadable row
   pub line : text ≡ line_of row ++ 10 ∷ rest
 
 -- The text begins with rows that lead from the first sequent to this stack, and then comes the rest.
 pub record HasReplayed (P : Program) (n : ℕ) (first : Sequent) (stack : List Open) (text rest : List ℕ) : Type 0 where
-  pub rows : List Row
+  pub rows : List PlainRow
   pub readable : All IsReadable rows
   pub leads : Leads P n (first ∷ []) rows (sequents_of stack)
   pub lines : text ≡ lines_of rows ++ rest

@@ -4,13 +4,13 @@ ghost use Rattle.std.specs.Prelude.{◌≡◌, ◌+◌, ◌<◌, ◌≤◌, ◌^
 ghost use Rattle.px_terms.specs.declared.types.Ty.{Ty};
 ghost use Rattle.px_terms.specs.declared.term.Term.TheVariants as terms;
 ghost use Rattle.px_terms.specs.declared.sequent.Sequent.{Sequent};
-ghost use Rattle.px_terms.specs.declared.row.Row.TheVariants.{CaseVar};
+ghost use Rattle.px_terms.specs.declared.row.PlainRow.TheVariants.{CaseVar};
 ghost use Rattle.px_terms.specs.limits.TheConstants.{VARIABLES};
 ghost use Rattle.px_terms.specs.Types.{tys_instance};
 ghost use Rattle.px_terms.specs.Typing.{live};
 ghost use Rattle.px_terms.specs.Types.{numbers_from};
 ghost use Rattle.px_terms.specs.Sequents.{IsWithinLimits, frame_put};
-ghost use Rattle.px_terms.specs.Derivations.{Opens, case_of, cases_from};
+ghost use Rattle.px_terms.specs.PlainDerivations.{Opens, case_of, cases_from};
 ghost use Rattle.px_terms.specs.Numbered.{HasNumbers};
 ghost use Rattle.px_replay.specs.Replays.{put_case};
 

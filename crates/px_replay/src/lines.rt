@@ -1,15 +1,16 @@
 ghost use Rattle.std.specs.Prelude.{◌≡◌, ◌<◌, ◌^◌, ℕ, List, [], ◌∷◌, ◌++◌, IfSome, MatchOption, IfOk, MatchResult, codes};
 ghost use Rattle.std.specs.Fmt.{decimal};
-ghost use Rattle.px_terms.specs.Spelling.{target_word, path_word, kind_words, line_of};
+ghost use Rattle.px_terms.specs.Spelling.{target_word, path_word, kind_words};
+ghost use Rattle.px_terms.specs.PlainSpelling.{line_of};
 ghost use Rattle.px_terms.specs.declared.row.Target.{Target as TheTarget};
 ghost use Rattle.px_terms.specs.declared.row.Kind.{Kind as TheKind};
-ghost use Rattle.px_terms.specs.declared.row.Row.{Row as TheRow};
-ghost use Rattle.px_terms.specs.declared.row.Row.TheVariants.{Header, Same, Step, CaseVar};
+ghost use Rattle.px_terms.specs.declared.row.PlainRow.{PlainRow as TheRow};
+ghost use Rattle.px_terms.specs.declared.row.PlainRow.TheVariants.{Header, Same, Step, CaseVar};
 ghost use Rattle.px_replay.specs.declared.lines.RowEnd.TheVariants.{NoMemory};
 ghost use Rattle.px_terms.specs.Readable.{AreSmall, IsReadableTarget, IsReadableKind, IsReadable};
 
 use crate::fields::{after_word, kind, number, path, target};
-use px_terms::{Kind, Row};
+use px_terms::{Kind, PlainRow};
 use sqlite_items::Items;
 use std::alloc::Global;
 
@@ -25,7 +26,7 @@ pub(crate) enum RowEnd {
 /// A row that was read, and the text after its line feed.
 #[derive(Drop)]
 pub(crate) struct ReadRow<'a> {
-    pub(crate) row: Row,
+    pub(crate) row: PlainRow,
     pub(crate) rest: &'a [u8],
 }
 
@@ -40,7 +41,7 @@ fn last_number(text: &[u8]) -> Option<(u32, &[u8])>
 }
 
 /// The header, the row of equal sides, or the row of cases that the text begins with.
-fn numbered_row(alloc: Global, text: &[u8]) -> Option<(Row, &[u8])>
+fn numbered_row(alloc: Global, text: &[u8]) -> Option<(PlainRow, &[u8])>
     ensures readable { IfSome result (λ read. IsReadable read.0) }
     ensures read { IfSome result (λ read. text.now ≡ line_of read.0 ++ 10 ∷ read.1.now) }
     ensures header { (n : ℕ) (rest : List ℕ) → n < 2 ^ 32 → text.now ≡ codes "goal " ++ (decimal n ++ 10 ∷ rest) → MatchOption result ⊥ (λ read. (read.0 ≡ Header n []) × (read.1.now ≡ rest)) }
@@ -50,14 +51,14 @@ fn numbered_row(alloc: Global, text: &[u8]) -> Option<(Row, &[u8])>
     if let Some(after) = after_word(text, b"goal ") {
         let (obligation, rest) = last_number(after)?;
         let on = Items::new(alloc);
-        return Some((Row::Header { obligation, on }, rest));
+        return Some((PlainRow::Header { obligation, on }, rest));
     }
     if let Some(after) = after_word(text, b"same ") {
         let (alternative, rest) = last_number(after)?;
-        return Some((Row::Same { alternative }, rest));
+        return Some((PlainRow::Same { alternative }, rest));
     }
     let (variable, rest) = last_number(after_word(text, b"case ")?)?;
-    Some((Row::CaseVar { variable }, rest))
+    Some((PlainRow::CaseVar { variable }, rest))
 }
 
 /// The step that the text begins with, after its word.
@@ -80,7 +81,7 @@ fn step_row(alloc: Global, text: &[u8]) -> Result<ReadRow<'_>, RowEnd>
         return Err(RowEnd::NotARow);
     };
     Ok(ReadRow {
-        row: Row::Step { target, path, kind },
+        row: PlainRow::Step { target, path, kind },
         rest,
     })
 }

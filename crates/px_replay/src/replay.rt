@@ -7,7 +7,7 @@ ghost use Rattle.px_replay.specs.declared.replay.ReplayEnd.TheVariants as ends;
 ghost use Rattle.px_replay.specs.declared.opened.Open.{Open};
 ghost use Rattle.px_terms.specs.Obligations.{AllHold};
 ghost use Rattle.px_terms.specs.Plain.{IsPlainProgram};
-ghost use Rattle.px_terms.specs.Spelling.{IsDerivationText, line_of};
+ghost use Rattle.px_terms.specs.PlainSpelling.{IsDerivationText, line_of};
 ghost use Rattle.px_terms.specs.TypedPrograms.{IsTyped};
 ghost use Rattle.px_terms.specs.Numbered.{HasNumbers};
 ghost use Rattle.px_replay.specs.Replays.{IsRightlyMarked, HasReplayed, ReplaysRow, ReplaysObligation};
@@ -19,7 +19,7 @@ use crate::rows::open_sequent;
 use px_descent::Checked;
 use px_props::ClauseEnd;
 use px_soundness::{derivations_are_sound, one_clause, one_opening, stack_is_tree};
-use px_terms::{Declared, NoMemory, Program, Row};
+use px_terms::{Declared, NoMemory, Program, PlainRow};
 use sqlite_items::Items;
 use std::alloc::{AllocError, Global};
 
@@ -137,8 +137,8 @@ fn replay_obligation<'a>(
 
 /// The text after the header of an obligation, without induction.
 fn after_header<'a>(alloc: Global, number: u32, text: &'a [u8]) -> Result<&'a [u8], ReplayEnd>
-    ensures header { IfOk result (λ rest. text.now ≡ line_of (Row.Header number []) ++ 10 ∷ rest.now) }
-    ensures only { (rest : List ℕ) → text.now ≡ line_of (Row.Header number []) ++ 10 ∷ rest → MatchResult result (λ found. found.now ≡ rest) (λ end. end ≡ ReplayEnd.NoMemory) }
+    ensures header { IfOk result (λ rest. text.now ≡ line_of (PlainRow.Header number []) ++ 10 ∷ rest.now) }
+    ensures only { (rest : List ℕ) → text.now ≡ line_of (PlainRow.Header number []) ++ 10 ∷ rest → MatchResult result (λ found. found.now ≡ rest) (λ end. end ≡ ReplayEnd.NoMemory) }
 {
     let read = read_row(alloc, text)?;
     if !is_header(&read.row, number) {
@@ -148,12 +148,12 @@ fn after_header<'a>(alloc: Global, number: u32, text: &'a [u8]) -> Result<&'a [u
 }
 
 /// The row is the header of this obligation, without induction.
-fn is_header(row: &Row, number: u32) -> bool
-    ensures { IsTrue result ↔ (row.now ≡ Row.Header number []) }
+fn is_header(row: &PlainRow, number: u32) -> bool
+    ensures { IsTrue result ↔ (row.now ≡ PlainRow.Header number []) }
 {
     match row {
-        Row::Header { obligation, on } => *obligation == number && on.is_empty(),
-        Row::Same { .. } | Row::Step { .. } | Row::CaseVar { .. } => false,
+        PlainRow::Header { obligation, on } => *obligation == number && on.is_empty(),
+        PlainRow::Same { .. } | PlainRow::Step { .. } | PlainRow::CaseVar { .. } => false,
     }
 }
 

@@ -6,7 +6,7 @@ ghost use Rattle.px_terms.specs.declared.sequent.Sequent.{Sequent};
 ghost use Rattle.px_terms.specs.declared.row.Target.{Target as StepTarget};
 ghost use Rattle.px_terms.specs.declared.row.Kind.{Kind as StepKind};
 ghost use Rattle.px_terms.specs.Sequents.{IsWithinLimits};
-ghost use Rattle.px_terms.specs.Derivations.{Opens};
+ghost use Rattle.px_terms.specs.PlainDerivations.{Opens};
 ghost use Rattle.px_terms.specs.Numbered.{HasNumbers};
 ghost use Rattle.px_replay.specs.Replays.{SidesAreOne, StepsSide, IsRightlyMarked, child_within, Opened};
 
@@ -15,7 +15,7 @@ use crate::opened::Open;
 use crate::replay::ReplayEnd;
 use crate::small::is_within_limits;
 use crate::steps::stepped;
-use px_terms::{Kind, NoMemory, Path, Program, Row, Sequent, Side, Target, Term, same_term};
+use px_terms::{Kind, NoMemory, Path, Program, PlainRow, Sequent, Side, Target, Term, same_term};
 use sqlite_items::{Items, at};
 use std::alloc::Global;
 
@@ -26,14 +26,14 @@ pub(crate) fn open_sequent(
     program: &Program,
     number: u32,
     top: Open,
-    row: &Row,
+    row: &PlainRow,
     stack: &mut Items<Open>,
 ) -> Result<(), ReplayEnd>
     requires { IsRightlyMarked top }
     ensures opened { OnOk result (Opened program.now number top.sequent row.now stack.old stack.new) }
     ensures only { HasNumbers program.now → (children : List Sequent) → Opens program.now number top.sequent row.now children → IsOkUnless result ReplayEnd.NoMemory }
 {
-    if let Row::Step { target, path, kind } = row {
+    if let PlainRow::Step { target, path, kind } = row {
         return open_stepped(alloc, program, number, top, *target, path, *kind, stack);
     }
     open_lent(alloc, program, number, &top.sequent, row, stack)
@@ -51,8 +51,8 @@ fn open_stepped(
     stack: &mut Items<Open>,
 ) -> Result<(), ReplayEnd>
     requires { IsRightlyMarked top }
-    ensures opened { OnOk result (Opened program.now number top.sequent (Row.Step target path.now kind) stack.old stack.new) }
-    ensures only { (children : List Sequent) → Opens program.now number top.sequent (Row.Step target path.now kind) children → IsOkUnless result ReplayEnd.NoMemory }
+    ensures opened { OnOk result (Opened program.now number top.sequent (PlainRow.Step target path.now kind) stack.old stack.new) }
+    ensures only { (children : List Sequent) → Opens program.now number top.sequent (PlainRow.Step target path.now kind) children → IsOkUnless result ReplayEnd.NoMemory }
 {
     let Open { sequent, is_within } = top;
     let child = step(
@@ -68,26 +68,26 @@ fn open_lent(
     program: &Program,
     number: u32,
     sequent: &Sequent,
-    row: &Row,
+    row: &PlainRow,
     stack: &mut Items<Open>,
 ) -> Result<(), ReplayEnd>
-    requires { (target : StepTarget) (path : List ℕ) (kind : StepKind) → row.now ≢ Row.Step target path kind }
+    requires { (target : StepTarget) (path : List ℕ) (kind : StepKind) → row.now ≢ PlainRow.Step target path kind }
     ensures opened { OnOk result (Opened program.now number sequent.now row.now stack.old stack.new) }
     ensures only { HasNumbers program.now → (children : List Sequent) → Opens program.now number sequent.now row.now children → IsOkUnless result ReplayEnd.NoMemory }
 {
     match row {
-        Row::Same { alternative } => {
+        PlainRow::Same { alternative } => {
             if !is_same(sequent, *alternative) {
                 return Err(ReplayEnd::Rejected);
             }
             Ok(())
         }
-        Row::CaseVar { variable } => {
+        PlainRow::CaseVar { variable } => {
             let children = cases(alloc, program, number, sequent, *variable)?;
             push_reversed(stack, children)?;
             Ok(())
         }
-        Row::Header { .. } | Row::Step { .. } => Err(ReplayEnd::Rejected),
+        PlainRow::Header { .. } | PlainRow::Step { .. } => Err(ReplayEnd::Rejected),
     }
 }
 
@@ -115,9 +115,9 @@ fn step(
     kind: Kind,
 ) -> Result<Sequent, ReplayEnd>
     requires { IsTrue is_within → IsWithinLimits sequent }
-    ensures opens { IfOk result (λ child. Opens program.now number sequent (Row.Step target path.now kind) (child ∷ [])) }
+    ensures opens { IfOk result (λ child. Opens program.now number sequent (PlainRow.Step target path.now kind) (child ∷ [])) }
     ensures small { IfOk result IsWithinLimits }
-    ensures only { (children : List Sequent) → Opens program.now number sequent (Row.Step target path.now kind) children → IsOkUnless result ReplayEnd.NoMemory }
+    ensures only { (children : List Sequent) → Opens program.now number sequent (PlainRow.Step target path.now kind) children → IsOkUnless result ReplayEnd.NoMemory }
 {
     let Target::Alternative {
         number: place,

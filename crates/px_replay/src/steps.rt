@@ -5,7 +5,7 @@ ghost use Rattle.px_terms.specs.declared.term.Term.{Term, out-Term};
 ghost use Rattle.px_terms.specs.declared.clause.Equation.{Equation};
 ghost use Rattle.px_terms.specs.limits.TheConstants.{SEQUENT_NODES};
 ghost use Rattle.px_terms.specs.Terms.{term_size};
-ghost use Rattle.px_terms.specs.Steps.{Turns, Step};
+ghost use Rattle.px_terms.specs.PlainSteps.{Turns, Step};
 
 use crate::replay::ReplayEnd;
 use crate::small::is_small;

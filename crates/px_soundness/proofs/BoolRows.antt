@@ -19,15 +19,15 @@ use Rattle.px_terms.specs.declared.sequent.Sequent.{Sequent}
 use Rattle.px_terms.specs.declared.row.Side.{Side}
 use Rattle.px_terms.specs.declared.row.Side.TheVariants.{Left, Right}
 use Rattle.px_terms.specs.declared.row.Kind.{Kind}
-use Rattle.px_terms.specs.declared.row.Row.{Row}
+use Rattle.px_terms.specs.declared.row.PlainRow.{PlainRow}
 use Rattle.px_terms.specs.Terms.{term_instance, term_put}
 use Rattle.px_terms.specs.TreeEdits.{equation_put, equations_put, with_side}
 use Rattle.px_terms.specs.TreeEquations.{term_put-Free, term_put-Con, term_put-Call, term_put-Match}
 use Rattle.px_terms.specs.Programs.{bool_type, bool_data, body_of}
 use Rattle.px_terms.specs.Sequents.{side_of, with_alternative_side}
-use Rattle.px_terms.specs.Steps.{Turns, unfolds, selects, Step}
-use Rattle.px_terms.specs.Derivations.{Opens, same, step, case, case_of, cases_from}
-use Rattle.px_terms.specs.TypedSequents.{HasBoolVariables}
+use Rattle.px_terms.specs.PlainSteps.{Turns, unfolds, selects, Step}
+use Rattle.px_terms.specs.PlainDerivations.{Opens, same, step, case, case_of, cases_from}
+use Rattle.px_terms.specs.PlainSequents.{HasBoolVariables}
 use Rattle.px_terms.specs.Plain.{IsPlainProgram}
 use Rattle.px_soundness.proofs.Shapes.{ty-Con-injective}
 use Rattle.px_soundness.proofs.BoolTerms.{IsBoolLayer, AreBoolTerms, IsBoolTerm, bool_variable, bool_truth, bool_match, bool_call, some_is, nothing_is_some, bool_datatype}
@@ -175,7 +175,7 @@ cases_bool P plain s v d args D children is typed declared children_are =
     subst (All (IsBoolSequent P)) (sym all) (All-cons (IsBoolSequent P) first (second ∷ []) (case_bool P plain s is v 0 (omega arith)) (All-cons (IsBoolSequent P) second [] (case_bool P plain s is v 1 (omega arith)) (All-nil (IsBoolSequent P))))
 
 -- each row leaves sequents over `Bool` of one over `Bool`
-pub opens_bool : (P : Program) → IsPlainProgram P → (n : ℕ) (s : Sequent) (row : Row) (children : List Sequent) → IsBoolSequent P s → Opens P n s row children → All (IsBoolSequent P) children
+pub opens_bool : (P : Program) → IsPlainProgram P → (n : ℕ) (s : Sequent) (row : PlainRow) (children : List Sequent) → IsBoolSequent P s → Opens P n s row children → All (IsBoolSequent P) children
 opens_bool P plain n s _ _ is (same found equal) = All-nil (IsBoolSequent P)
 opens_bool P plain n s _ _ is (step {child = child} {j = j} {side = side} {path = path} {kind = kind} {e = e} {t = t} found steps child_is small) = All-cons (IsBoolSequent P) child [] (subst (IsBoolSequent P) (sym child_is) (stepped P plain s j e side path kind t is found steps)) (All-nil (IsBoolSequent P))
 opens_bool P plain n s _ _ is (case {v = v} {D = D} {children = children} d args typed declared children_are small) = cases_bool P plain s v d args D children is typed declared children_are

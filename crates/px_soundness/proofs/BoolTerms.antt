@@ -13,7 +13,7 @@ use Rattle.px_terms.specs.declared.sequent.Context.{Context}
 use Rattle.px_terms.specs.Types.{tys_instance}
 use Rattle.px_terms.specs.Programs.{bool_type, bool_data, constructor_at}
 use Rattle.px_terms.specs.Typing.{Place, HasTypeLayer, HaveTypesInArms, HasType, free, bound, lit, con, call, choose, no_arm, arm}
-use Rattle.px_terms.specs.TypedSequents.{HasBoolVariables}
+use Rattle.px_terms.specs.PlainSequents.{HasBoolVariables}
 use Rattle.px_terms.specs.Plain.{IsPlainLayer, IsPlain, ArePlain}
 use Rattle.px_terms.specs.Plain as plainly
 

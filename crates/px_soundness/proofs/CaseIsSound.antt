@@ -18,7 +18,7 @@ use Rattle.px_terms.specs.Programs.{bool_type}
 use Rattle.px_terms.specs.Values.{IsIn}
 use Rattle.px_terms.specs.Meaning.{MeansOf, con, MeanAll}
 use Rattle.px_terms.specs.Holding.{AreTrueAt, SomeIsTrueAt}
-use Rattle.px_terms.specs.Derivations.{case_of, cases_from}
+use Rattle.px_terms.specs.PlainDerivations.{case_of, cases_from}
 use Rattle.px_terms.specs.Plain.{IsPlainProgram}
 use Rattle.px_soundness.specs.Validity.{FitVariables, none, live, gone, PresentSizes, IsValidAt}
 use Rattle.px_soundness.proofs.BoolTerms.{bool_datatype}

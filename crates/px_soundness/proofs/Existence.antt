@@ -22,7 +22,7 @@ use Rattle.px_terms.specs.Values as values
 use Rattle.px_terms.specs.Meaning.{truth, chosen, MeansOf, MeanAll, Gives, Means, free, con, choose, call, none, more, defined}
 use Rattle.px_terms.specs.Typing.{in_body, live}
 use Rattle.px_terms.specs.TypedPrograms.{own_context}
-use Rattle.px_terms.specs.TypedSequents.{HasBoolVariables}
+use Rattle.px_terms.specs.PlainSequents.{HasBoolVariables}
 use Rattle.px_soundness.specs.Validity.{FitVariables}
 use Rattle.px_soundness.specs.Validity as fitting
 use Rattle.px_terms.specs.Plain.{IsPlainProgram, IsPlainDef, AreBools}

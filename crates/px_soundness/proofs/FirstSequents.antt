@@ -31,7 +31,7 @@ use Rattle.px_terms.specs.Clauses.{Subject, equals, applied, x_of, y_of, z_of, s
 use Rattle.px_terms.specs.Holding.{FunsFit, HoldsIn}
 use Rattle.px_terms.specs.Obligations.{IsDeclaredClause, of_property, of_lemma, IsObligation, AllHold}
 use Rattle.px_terms.specs.Sequents.{own_frame, first_sequent}
-use Rattle.px_terms.specs.Derivations.{Node, Tree, Derives, DerivesObligation, IsDerivation}
+use Rattle.px_terms.specs.PlainDerivations.{Node, Tree, Derives, DerivesObligation, IsDerivation}
 use Rattle.px_terms.specs.Plain.{AreBools, IsPlainProgram}
 use Rattle.px_terms.specs.Plain as plain
 use Rattle.px_soundness.specs.Validity.{FitVariables, IsValidAt}

@@ -16,13 +16,13 @@ use Rattle.px_terms.specs.declared.row.Side.{Side}
 use Rattle.px_terms.specs.declared.row.Kind.{Kind}
 use Rattle.px_terms.specs.declared.row.Kind.TheVariants as kind
 use Rattle.px_terms.specs.declared.row.Target.TheVariants as target
-use Rattle.px_terms.specs.declared.row.Row.{Row}
-use Rattle.px_terms.specs.declared.row.Row.TheVariants as row
+use Rattle.px_terms.specs.declared.row.PlainRow.{PlainRow}
+use Rattle.px_terms.specs.declared.row.PlainRow.TheVariants as row
 use Rattle.px_terms.specs.Terms.{subterm, replaced, term_instance}
 use Rattle.px_terms.specs.Programs.{body_of}
 use Rattle.px_terms.specs.Sequents.{side_of, with_alternative_side}
-use Rattle.px_terms.specs.Steps.{Turns, unfolds, selects, Step}
-use Rattle.px_terms.specs.Derivations.{Opens, same, step, case, cases_from}
+use Rattle.px_terms.specs.PlainSteps.{Turns, unfolds, selects, Step}
+use Rattle.px_terms.specs.PlainDerivations.{Opens, same, step, case, cases_from}
 
 some_is : {A : Type 0} (a b : A) (o : Option A) → o ≡ Some a → o ≡ Some b → a ≡ b
 some_is a b o p q = let h : Some a ≡ Some b = sym p ∙ q in cc
@@ -76,13 +76,13 @@ record CasesAre (P : Program) (s : Sequent) (v : ℕ) (children : List Sequent) 
   children_are : children ≡ cases_from s v d args 0 D.cons
 
 -- what the row leaves, by the row
-abbrev Leaves : Program → Sequent → Row → List Sequent → Type 0
+abbrev Leaves : Program → Sequent → PlainRow → List Sequent → Type 0
 Leaves P s (row.Same j) children = children ≡ []
 Leaves P s (row.Step (target.Alternative j side) path k) children = StepsTo P s j side path k children
 Leaves P s (row.CaseVar v) children = CasesAre P s v children
 Leaves P s _ children = ⊥
 
-leaves : (P : Program) (n : ℕ) (s : Sequent) (r : Row) (children : List Sequent) → Opens P n s r children → Leaves P s r children
+leaves : (P : Program) (n : ℕ) (s : Sequent) (r : PlainRow) (children : List Sequent) → Opens P n s r children → Leaves P s r children
 leaves P n s _ _ (same found equal) = refl
 leaves P n s _ _ (step {e = e} {t = t} found steps child small) = record { e = e; t = t; at = found; steps = steps; children_are = ap (λ c. c ∷ []) child }
 leaves P n s _ _ (case {D = D} d args typed declared children small) = record { d = d; args = args; D = D; typed = typed; declared = declared; children_are = children }
@@ -104,10 +104,10 @@ one_after_cases P s v a b one other =
     let D : one.D ≡ other.D = some_is one.D other.D (slice_get P.datatypes other.d) declared other.declared in
     one.children_are ∙ ap (λ d. cases_from s v d one.args 0 one.D.cons) d ∙ ap (λ args. cases_from s v other.d args 0 one.D.cons) args ∙ ap (λ (D : DataDef). cases_from s v other.d other.args 0 D.cons) D ∙ sym other.children_are
 
-pub one_opening : (P : Program) (n : ℕ) (s : Sequent) (r : Row) (a b : List Sequent) → Opens P n s r a → Opens P n s r b → a ≡ b
+pub one_opening : (P : Program) (n : ℕ) (s : Sequent) (r : PlainRow) (a b : List Sequent) → Opens P n s r a → Opens P n s r b → a ≡ b
 one_opening P n s r a b one other = by r (leaves P n s r a one) (leaves P n s r b other)
   where
-    by : (r : Row) → Leaves P s r a → Leaves P s r b → a ≡ b
+    by : (r : PlainRow) → Leaves P s r a → Leaves P s r b → a ≡ b
     by (row.Same j) x y = x ∙ sym y
     by (row.Step (target.Alternative j side) path k) x y = one_after_step P s j side path k a b x y
     by (row.Step (target.Fact j side) path k) x y = absurd x

@@ -10,11 +10,11 @@ use Rattle.px_terms.specs.declared.program.Program.{Program}
 use Rattle.px_terms.specs.declared.sequent.Sequent.{Sequent}
 use Rattle.px_terms.specs.declared.row.Side.{Side}
 use Rattle.px_terms.specs.declared.row.Kind.{Kind}
-use Rattle.px_terms.specs.declared.row.Row.{Row}
+use Rattle.px_terms.specs.declared.row.PlainRow.{PlainRow}
 use Rattle.px_terms.specs.Terms.{subterm, replaced}
 use Rattle.px_terms.specs.Sequents.{side_of, with_alternative_side}
-use Rattle.px_terms.specs.Steps.{Turns, unfolds, selects}
-use Rattle.px_terms.specs.Derivations.{Opens, same, step, case}
+use Rattle.px_terms.specs.PlainSteps.{Turns, unfolds, selects}
+use Rattle.px_terms.specs.PlainDerivations.{Opens, same, step, case}
 use Rattle.px_terms.specs.Plain.{IsPlainProgram}
 use Rattle.px_soundness.proofs.Assumed.{IsSound}
 use Rattle.px_soundness.proofs.CaseIsSound.{case_is_sound}
@@ -30,7 +30,7 @@ module _ (Q : Program) (plain : IsPlainProgram Q) (types : List Ty) (funs : List
   turn_is_sound s j e side path part becomes t is found at whole _ _ part_is (selects {on = scrutinee} {d = d} {e = f} {k = k} {types = ts} {us = us} {arms = arms} {arm = arm} scrutinee_is arm_is becomes_is) = select_is_sound Q plain types funs n clause on total s j e side path part becomes t is found at whole scrutinee d f k ts us arms arm part_is scrutinee_is arm_is becomes_is
 
   -- a row of each kind is sound
-  pub row_is_sound : (s : Sequent) (r : Row) (children : List Sequent) → IsBoolSequent Q s → Opens Q n s r children → IsSound Q types funs n clause on total s children
+  pub row_is_sound : (s : Sequent) (r : PlainRow) (children : List Sequent) → IsBoolSequent Q s → Opens Q n s r children → IsSound Q types funs n clause on total s children
   row_is_sound s _ _ is (same {j = j} {e = e} found one) = same_is_sound Q plain types funs n clause on total s j e is found one
   row_is_sound s _ _ is (step {child = child} {j = j} {side = side} {path = path} {kind = kind} {e = e} {t = t} found one_step child_is small) =
       subst (λ (x : Sequent). IsSound Q types funs n clause on total s (x ∷ [])) (sym child_is) (turn_is_sound s j e side path one_step.part one_step.becomes t is found one_step.at one_step.whole kind (out-Term one_step.part) refl one_step.turns)

@@ -5,7 +5,7 @@ use Rattle.px_terms.specs.declared.types.Fun.{Fun}
 use Rattle.px_terms.specs.declared.clause.Clause.{Clause}
 use Rattle.px_terms.specs.declared.program.Program.{Program}
 use Rattle.px_terms.specs.declared.sequent.Sequent.{Sequent}
-use Rattle.px_terms.specs.Derivations.{Node, Nodes, node, no_node, more_nodes, Derives, by_row, DeriveAll, all_derived, derived}
+use Rattle.px_terms.specs.PlainDerivations.{Node, Nodes, node, no_node, more_nodes, Derives, by_row, DeriveAll, all_derived, derived}
 use Rattle.px_terms.specs.Plain.{IsPlainProgram}
 use Rattle.px_soundness.specs.Validity.{IsValidAt}
 use Rattle.px_soundness.proofs.Assumed.{Assumed}

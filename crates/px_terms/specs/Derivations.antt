@@ -1,51 +1,14 @@
--- Derivations: the children of each row, the trees that derive a sequent, and the stack of open sequents.
-use Rattle.std.specs.Prelude.{◌≡◌, ℕ, ◌+◌, List, [], ◌∷◌, ◌++◌, length, map, slice_get, slice_set, Some, None, All}
-use Rattle.px_terms.specs.declared.types.Ty.{Ty}
-use Rattle.px_terms.specs.declared.types.Ty.TheVariants as type
-use Rattle.px_terms.specs.declared.term.Term.{Term}
+-- Derivations: the trees that derive a sequent, and the stack of open sequents.
+use Rattle.std.specs.Prelude.{◌≡◌, ℕ, ◌<◌, List, [], ◌∷◌, ◌++◌, length, slice_get, Some, All}
 use Rattle.px_terms.specs.declared.term.Term.TheVariants as term
-use Rattle.px_terms.specs.declared.clause.Equation.{Equation}
 use Rattle.px_terms.specs.declared.clause.Clause.{Clause}
-use Rattle.px_terms.specs.declared.program.ConDef.{ConDef}
-use Rattle.px_terms.specs.declared.program.DataDef.{DataDef}
 use Rattle.px_terms.specs.declared.program.Program.{Program}
 use Rattle.px_terms.specs.declared.sequent.Sequent.{Sequent}
-use Rattle.px_terms.specs.declared.row.Side.{Side}
-use Rattle.px_terms.specs.declared.row.Kind.{Kind}
-use Rattle.px_terms.specs.declared.row.Target.TheVariants as target
 use Rattle.px_terms.specs.declared.row.Row.{Row}
-use Rattle.px_terms.specs.declared.row.Row.TheVariants as row
-use Rattle.px_terms.specs.Types.{tys_instance, numbers_from}
-use Rattle.px_terms.specs.Typing.{live}
+use Rattle.px_terms.specs.declared.row.Tree.{Tree}
 use Rattle.px_terms.specs.Obligations.{IsObligation}
-use Rattle.px_terms.specs.Sequents.{side_of, own_frame, first_sequent, IsWithinLimits, with_alternative_side, frame_put}
-use Rattle.px_terms.specs.TreeEdits.{equations_put}
-use Rattle.px_terms.specs.Steps.{Step}
-
--- constructor k of a datatype on fresh variables
-abbrev pub fresh_constructor : Sequent → ℕ → List Ty → ℕ → ConDef → Term
-fresh_constructor s d args k c = term.Con d k args (map (λ (i : ℕ). term.Free i) (numbers_from s.next (length c.fields)))
-
--- a sequent where a variable is constructor k on fresh variables: it is put in everywhere, and is no longer live
-abbrev pub case_of : Sequent → ℕ → ℕ → List Ty → ℕ → ConDef → Sequent
-case_of s v d args k c = let by = fresh_constructor s d args k c in record {
-  context = record { tparams = s.context.tparams; funs = s.context.funs; vars = slice_set s.context.vars v None ++ live (tys_instance args c.fields) };
-  frame = frame_put v by s.frame;
-  facts = equations_put v by s.facts;
-  alternatives = equations_put v by s.alternatives;
-  next = s.next + length c.fields;
-}
-
--- the cases of a variable, a sequent for each constructor in order
-abbrev pub cases_from : Sequent → ℕ → ℕ → List Ty → ℕ → List ConDef → List Sequent
-cases_from s v d args k [] = []
-cases_from s v d args k (c ∷ cs) = case_of s v d args k c ∷ cases_from s v d args (k + 1) cs
-
--- the row applies to the sequent in obligation n, and leaves these children
-pub data Opens (P : Program) (n : ℕ) : Sequent → Row → List Sequent → Type 0 where
-  same : {s : Sequent} {j : ℕ} {e : Equation} → slice_get s.alternatives j ≡ Some e → e.left ≡ e.right → Opens P n s (row.Same j) []
-  step : {s child : Sequent} {j : ℕ} {side : Side} {path : List ℕ} {kind : Kind} {e : Equation} {t : Term} → slice_get s.alternatives j ≡ Some e → Step P s.facts (side_of e side) path kind t → child ≡ with_alternative_side s j e side t → IsWithinLimits child → Opens P n s (row.Step (target.Alternative j side) path kind) (child ∷ [])
-  case : {s : Sequent} {v : ℕ} {D : DataDef} {children : List Sequent} → (d : ℕ) (args : List Ty) → slice_get s.context.vars v ≡ Some (Some (type.Con d args)) → slice_get P.datatypes d ≡ Some D → children ≡ cases_from s v d args 0 D.cons → All IsWithinLimits children → Opens P n s (row.CaseVar v) children
+use Rattle.px_terms.specs.Sequents.{own_frame, first_sequent}
+use Rattle.px_terms.specs.Rows.{Opens}
 
 mutual
   -- a row of a derivation with the trees of its children
@@ -57,11 +20,6 @@ mutual
     no_node : Nodes
     more_nodes : (first : Node) (others : Nodes) → Nodes
 
--- The tree of an obligation: the variables that the induction speaks of, and the first row.
-pub record Tree : Type 0 where
-  pub on : List ℕ
-  pub root : Node
-
 mutual
   -- in obligation n the tree derives the sequent
   pub data Derives (P : Program) (n : ℕ) : Sequent → Node → Type 0 where
@@ -70,19 +28,8 @@ mutual
   -- each tree derives the sequent at its place
   pub data DeriveAll (P : Program) (n : ℕ) : List Sequent → Nodes → Type 0 where
     all_derived : DeriveAll P n [] no_node
-    derived : {s : Sequent} {sequents : List Sequent} {first : Node} {others : Nodes} → Derives P n s first → DeriveAll P n sequents others → DeriveAll P n (s ∷ sequents) (more_nodes first others)
-
--- the tree derives the first sequent of obligation n; as yet no induction
-pub record DerivesObligation (P : Program) (n : ℕ) (tree : Tree) : Type 0 where
-  pub clause : Clause
-  pub obligation : IsObligation P n clause
-  pub rising : tree.on ≡ []
-  pub derives : Derives P n (first_sequent clause (own_frame (λ (v : ℕ). term.Free v) tree.on)) tree.root
-
--- one tree for each obligation, in order, and each derives its obligation
-pub record IsDerivation (P : Program) (trees : List Tree) : Type 0 where
-  pub count : length trees ≡ length P.declared
-  pub each : (n : ℕ) (tree : Tree) → slice_get trees n ≡ Some tree → DerivesObligation P n tree
+    derived : {s : Sequent} {sequents : List Sequent} {first : Node} {others : Nodes} → Derives P n s first → DeriveAll P n sequents others →
+        DeriveAll P n (s ∷ sequents) (more_nodes first others)
 
 abbrev mutual
   -- the rows of a tree in preorder
@@ -93,10 +40,39 @@ abbrev mutual
   rows_of_all no_node = []
   rows_of_all (more_nodes first others) = rows_of first ++ rows_of_all others
 
+-- the numbers rise
+abbrev pub Rise : List ℕ → Type 0
+Rise [] = Unit {0}
+Rise (n ∷ ns) = All (λ (m : ℕ). n < m) ns × Rise ns
+
+-- The induction may speak of these variables of the clause: they rise, and are among its data variables.
+pub record AreFrameVariables (clause : Clause) (on : List ℕ) : Type 0 where
+  pub rise : Rise on
+  pub within : All (λ (v : ℕ). v < length clause.vars) on
+
+-- the sequent that the tree of an obligation begins with, where the induction speaks of these variables
+abbrev pub begins_with : Clause → List ℕ → Sequent
+begins_with clause on = first_sequent clause (own_frame (λ (v : ℕ). term.Free v) on)
+
+-- The rows are those of a tree, in preorder, that derives the first sequent of obligation n.
+pub record DerivesObligation (P : Program) (n : ℕ) (tree : Tree) : Type 0 where
+  pub clause : Clause
+  pub obligation : IsObligation P n clause
+  pub on : AreFrameVariables clause tree.on
+  pub root : Node
+  pub rows : rows_of root ≡ tree.rows
+  pub derives : Derives P n (begins_with clause tree.on) root
+
+-- one tree for each obligation, in order, and each derives its obligation
+pub record IsDerivation (P : Program) (trees : List Tree) : Type 0 where
+  pub count : length trees ≡ length P.declared
+  pub each : (n : ℕ) (tree : Tree) → slice_get trees n ≡ Some tree → DerivesObligation P n tree
+
 -- the rows lead from a stack of open sequents to another one: each row takes the top sequent and puts its children there
 pub data Leads (P : Program) (n : ℕ) : List Sequent → List Row → List Sequent → Type 0 where
   stays : {stack : List Sequent} → Leads P n stack [] stack
-  goes_on : {s : Sequent} {below after : List Sequent} {r : Row} {rows : List Row} {children : List Sequent} → Opens P n s r children → Leads P n (children ++ below) rows after → Leads P n (s ∷ below) (r ∷ rows) after
+  goes_on : {s : Sequent} {below after : List Sequent} {r : Row} {rows : List Row} {children : List Sequent} → Opens P n s r children →
+      Leads P n (children ++ below) rows after → Leads P n (s ∷ below) (r ∷ rows) after
 
 -- rows lead from one sequent to nothing open exactly where they are those of a tree that derives it
 pub record StackIsTree (P : Program) (n : ℕ) (s : Sequent) (rows : List Row) : Type 0 where

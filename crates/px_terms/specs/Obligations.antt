@@ -9,6 +9,7 @@ use Rattle.px_terms.specs.declared.program.Declared.TheVariants as declared
 use Rattle.px_terms.specs.declared.program.Program.{Program}
 use Rattle.px_terms.specs.Clauses.{IsClauseOf}
 use Rattle.px_terms.specs.Holding.{Holds}
+use Rattle.px_terms.specs.Extending.{HoldsInExtensions}
 
 -- what a lemma says: its premises give its conclusion
 abbrev pub lemma_clause : Lemma → Clause
@@ -28,3 +29,7 @@ pub record IsObligation (P : Program) (n : ℕ) (clause : Clause) : Type 0 where
 -- every obligation of the program holds
 pub record AllHold (P : Program) : Type 0 where
   pub each : (n : ℕ) (clause : Clause) → IsObligation P n clause → Holds P clause
+
+-- every obligation of the program holds in each of its extensions
+pub record AllHoldInExtensions (P : Program) : Type 0 where
+  pub each : (n : ℕ) (clause : Clause) → IsObligation P n clause → HoldsInExtensions P clause

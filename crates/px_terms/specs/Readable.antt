@@ -5,8 +5,8 @@ use Rattle.px_terms.specs.declared.row.Kind.{Kind}
 use Rattle.px_terms.specs.declared.row.Kind.TheVariants as kind
 use Rattle.px_terms.specs.declared.row.Target.{Target}
 use Rattle.px_terms.specs.declared.row.Target.TheVariants as target
-use Rattle.px_terms.specs.declared.row.Row.{Row}
-use Rattle.px_terms.specs.declared.row.Row.TheVariants as row
+use Rattle.px_terms.specs.declared.row.PlainRow.{PlainRow}
+use Rattle.px_terms.specs.declared.row.PlainRow.TheVariants as row
 
 -- each number is below 2^32
 abbrev pub AreSmall : List ℕ → Type 0
@@ -25,7 +25,7 @@ IsReadableKind kind.Compare = Unit {0}
 IsReadableKind (kind.Fact n left_to_right) = n < 2 ^ 32
 
 -- each number of the row is below 2^32, and a header has no variables
-abbrev pub IsReadable : Row → Type 0
+abbrev pub IsReadable : PlainRow → Type 0
 IsReadable (row.Header n on) = (n < 2 ^ 32) × (on ≡ [])
 IsReadable (row.Same j) = j < 2 ^ 32
 IsReadable (row.Step t path k) = IsReadableTarget t × AreSmall path × IsReadableKind k

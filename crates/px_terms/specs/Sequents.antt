@@ -56,6 +56,10 @@ pub record IsWithinLimits (s : Sequent) : Type 0 where
 abbrev pub with_alternative_side : Sequent → ℕ → Equation → Side → Term → Sequent
 with_alternative_side s n e side t = record s { alternatives = slice_set s.alternatives n (with_side side e t) }
 
+-- the sequent with another side of one fact
+abbrev pub with_fact_side : Sequent → ℕ → Equation → Side → Term → Sequent
+with_fact_side s n e side t = record s { facts = slice_set s.facts n (with_side side e t) }
+
 -- a term is put in for a variable in each present term
 abbrev pub frame_put : ℕ → Term → Frame → Frame
 frame_put v by f = record { entries = map (λ (p : Present). record { variable = p.variable; term = term_put v by p.term }) f.entries }

@@ -1,6 +1,6 @@
 use Rattle.std.proofs.Common.{◌≡◌, [], ◌∷◌, ◌++◌, take}
 use Rattle.std.specs.List.{flat_map}
-use Rattle.px_derive.specs.declared.row.Row.{Row}
+use Rattle.px_terms.specs.declared.row.Row.{Row}
 use Rattle.px_derive.specs.Spelling.{line_of}
 use Rattle.px_derive.proofs.trees.print_rows.Given as goal
 

@@ -1,6 +1,6 @@
 use Rattle.std.proofs.Common.{◌≡◌, true, false, sym, subst}
 use Rattle.px_terms.specs.Sequents.{IsWithinLimits}
-use Rattle.px_terms.specs.Derivations.{case_of}
+use Rattle.px_terms.specs.PlainDerivations.{case_of}
 use Rattle.px_replay.proofs.OpeningLemmas.{case_made}
 use Rattle.px_replay.proofs.cases.case.Goals as goal
 

@@ -5,8 +5,8 @@ use Rattle.px_terms.specs.declared.types.Ty.TheVariants as type
 use Rattle.px_terms.specs.declared.program.ConDef.{ConDef}
 use Rattle.px_terms.specs.declared.program.DataDef.{DataDef}
 use Rattle.px_terms.specs.Sequents.{IsWithinLimits}
-use Rattle.px_terms.specs.Derivations.{case, cases_from}
-use Rattle.px_terms.specs.declared.row.Row.TheVariants.{CaseVar}
+use Rattle.px_terms.specs.PlainDerivations.{case, cases_from}
+use Rattle.px_terms.specs.declared.row.PlainRow.TheVariants.{CaseVar}
 use Rattle.px_replay.proofs.OpeningLemmas.{needs, cases_fit}
 use Rattle.px_replay.proofs.Results.{both_ok}
 use Rattle.px_replay.proofs.cases.cases.Goals as goal

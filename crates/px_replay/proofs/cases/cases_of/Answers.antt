@@ -2,7 +2,7 @@ use Rattle.std.proofs.Common.{◌≡◌, ◌++◌, ◌+◌, drop, ap, sym, subst
 use Rattle.std.proofs.lemmas.List.Elements.{All-push}
 use Rattle.px_terms.specs.declared.sequent.Sequent.{Sequent}
 use Rattle.px_terms.specs.Sequents.{IsWithinLimits}
-use Rattle.px_terms.specs.Derivations.{case_of, cases_from}
+use Rattle.px_terms.specs.PlainDerivations.{case_of, cases_from}
 use Rattle.px_replay.proofs.OpeningLemmas.{case_is_due}
 use Rattle.px_replay.proofs.Results.{still_ends}
 use Rattle.px_replay.proofs.RowLemmas.{cases_push}

@@ -1,6 +1,6 @@
 use Rattle.std.proofs.Common.{◌≡◌, ◌++◌, drop, All}
 use Rattle.px_terms.specs.Sequents.{IsWithinLimits}
-use Rattle.px_terms.specs.Derivations.{cases_from}
+use Rattle.px_terms.specs.PlainDerivations.{cases_from}
 use Rattle.px_replay.proofs.cases.cases_of.Given as goal
 
 abbrev pub invariant-loop-place : goal.invariant-loop-place

@@ -1,5 +1,5 @@
 use Rattle.std.proofs.Common.{◌≡◌, ◌<◌, ◌^◌, true, false, refl, [], arith}
-use Rattle.px_terms.specs.declared.row.Row.TheVariants.{Header}
+use Rattle.px_terms.specs.declared.row.PlainRow.TheVariants.{Header}
 use Rattle.px_replay.proofs.Results.{passed_on}
 use Rattle.px_replay.proofs.replay.after_header.Goals as goal
 

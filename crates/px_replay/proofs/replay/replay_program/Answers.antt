@@ -1,6 +1,6 @@
 use Rattle.std.proofs.Common.{◌≡◌, ◌<◌, ◌+◌, ◌==◌, true, false, [], ℕ, List, length, sym, ap, subst, ◌∙◌, arith}
 use Rattle.px_terms.specs.declared.program.Declared.{Declared}
-use Rattle.px_terms.specs.Spelling.{IsDerivationText}
+use Rattle.px_terms.specs.PlainSpelling.{IsDerivationText}
 use Rattle.px_replay.specs.Replays.{ReplaysBelow}
 use Rattle.px_replay.proofs.Closings.{IsRestOf, whole_rest, next_tree, no_rest}
 use Rattle.px_replay.proofs.ReplayLemmas.{begins_below, goes_on_below, all_replayed, nothing_left}

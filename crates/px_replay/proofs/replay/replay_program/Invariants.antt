@@ -1,4 +1,4 @@
-use Rattle.px_terms.specs.Spelling.{IsDerivationText}
+use Rattle.px_terms.specs.PlainSpelling.{IsDerivationText}
 use Rattle.px_replay.specs.Replays.{ReplaysBelow}
 use Rattle.px_replay.proofs.Closings.{IsRestOf}
 use Rattle.px_replay.proofs.replay.replay_program.Given as goal

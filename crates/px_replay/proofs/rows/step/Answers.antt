@@ -1,9 +1,9 @@
 use Rattle.std.proofs.Common.{◌≡◌, true, false, inr, sym, subst, ◌∙◌, ◌∷◌, []}
 use Rattle.px_terms.specs.declared.row.Target.{Target}
 use Rattle.px_terms.specs.declared.row.Target.TheVariants as target
-use Rattle.px_terms.specs.declared.row.Row.TheVariants as row
+use Rattle.px_terms.specs.declared.row.PlainRow.TheVariants as row
 use Rattle.px_terms.specs.Sequents.{IsWithinLimits}
-use Rattle.px_terms.specs.Derivations.{Opens}
+use Rattle.px_terms.specs.PlainDerivations.{Opens}
 use Rattle.px_replay.proofs.OpeningLemmas.{StepsTo, needs, child_fits}
 use Rattle.px_replay.proofs.Results.{still_ends}
 use Rattle.px_replay.proofs.RowLemmas.{step_opens, step_is_within}

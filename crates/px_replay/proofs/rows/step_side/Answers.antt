@@ -3,7 +3,7 @@ use Rattle.std.proofs.lemmas.Result.{IfOk-weaker}
 use Rattle.px_terms.specs.declared.clause.Equation.{Equation}
 use Rattle.px_terms.specs.declared.row.Side.{Side}
 use Rattle.px_terms.specs.Sequents.{side_of}
-use Rattle.px_terms.specs.Steps.{Step}
+use Rattle.px_terms.specs.PlainSteps.{Step}
 use Rattle.px_replay.proofs.OpeningLemmas.{step_of}
 use Rattle.px_replay.proofs.rows.step_side.Goals as goal
 
