@@ -3,8 +3,8 @@ use Rattle.std.proofs.Common.{◌≡◌, ◌≤◌, ℕ, List, Option, Result, O
 use Rattle.px_world.specs.declared.files.Files as files
 use Rattle.px_terms.specs.declared.program.Program.{Program}
 use Rattle.px_terms.specs.PlainSpelling.{IsDerivationText}
-use Rattle.px_replay.specs.declared.replay.ReplayEnd.{ReplayEnd}
-use Rattle.px_replay.specs.declared.replay.ReplayEnd.TheVariants as replaying
+use Rattle.px_plain_replay.specs.declared.replay.ReplayEnd.{ReplayEnd}
+use Rattle.px_plain_replay.specs.declared.replay.ReplayEnd.TheVariants as replaying
 use Rattle.px_drive.specs.declared.outcome.CommandLine.{CommandLine}
 use Rattle.px_drive.specs.declared.outcome.Which.{Which}
 use Rattle.px_drive.specs.declared.outcome.End.{End}

@@ -5,7 +5,7 @@ use Rattle.px_base.specs.declared.raw.RawProgram.{RawProgram}
 use Rattle.px_base.specs.Fitting.{IsFitting}
 use Rattle.px_terms.specs.declared.program.Program.{Program}
 use Rattle.px_terms.specs.Descent.{AllDescend}
-use Rattle.px_soundness.specs.Laws.{DerivationsAreSound}
+use Rattle.px_plain.specs.Laws.{DerivationsAreSound}
 use Rattle.px_lexer.specs.declared.token.Token.{Token}
 use Rattle.px_lexer.specs.declared.scan.LexEnd.{LexEnd}
 use Rattle.px_lexer.specs.declared.scan.LexEnd.TheVariants as lexing

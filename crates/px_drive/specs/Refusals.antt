@@ -8,8 +8,8 @@ use Rattle.px_scope.specs.declared.ends.ScopeEnd.TheVariants as scoping
 use Rattle.px_types.specs.declared.ends.TypeEnd.{TypeEnd}
 use Rattle.px_types.specs.declared.ends.TypeEnd.TheVariants as typing
 use Rattle.px_descent.specs.declared.end.NoDescent.{NoDescent}
-use Rattle.px_replay.specs.declared.replay.ReplayEnd.{ReplayEnd}
-use Rattle.px_replay.specs.declared.replay.ReplayEnd.TheVariants as replaying
+use Rattle.px_plain_replay.specs.declared.replay.ReplayEnd.{ReplayEnd}
+use Rattle.px_plain_replay.specs.declared.replay.ReplayEnd.TheVariants as replaying
 use Rattle.px_drive.specs.declared.outcome.End.{End}
 use Rattle.px_drive.specs.declared.outcome.End.TheVariants.{Source, Rejected, NoMemory}
 use Rattle.px_drive.specs.declared.outcome.SourceFault.TheVariants.{Lex, Parse, Scope, Typing, Descent}

@@ -6,7 +6,7 @@ use crate::{End, SourceFault};
 use px_descent::NoDescent;
 use px_lexer::LexEnd;
 use px_parser::ParseEnd;
-use px_replay::ReplayEnd;
+use px_plain_replay::ReplayEnd;
 use px_scope::ScopeEnd;
 use px_terms::NoMemory;
 use px_types::TypeEnd;

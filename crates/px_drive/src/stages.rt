@@ -8,7 +8,7 @@ use crate::{End, SourceFault, Which};
 use px_descent::Checked;
 use px_lexer::tokens;
 use px_parser::parse;
-use px_replay::{is_over_truth_values, replay_text};
+use px_plain_replay::{is_over_truth_values, replay_text};
 use px_scope::resolve;
 use px_terms::Text;
 use px_terms::limits::{DERIVATION_BYTES, PROGRAM_BYTES};

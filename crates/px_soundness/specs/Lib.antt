@@ -1,4 +1,3 @@
 pub mod Validity
+pub mod Argument
 pub mod Laws
-pub mod Examples
-pub mod ExampleLaws

@@ -1,34 +1,32 @@
-ghost use Rattle.px_soundness.specs.Laws.{DerivationsAreSound, OneClause, OneOpening, StacksAreTrees, EachStackIsTree, OneMeaning};
+//! What is said of derivations, as functions whose contracts are these laws.
+ghost use Rattle.px_soundness.specs.Laws.{DerivationsAreSound, EachStackIsTree, OneClause, OneOpening, StacksAreTrees};
 
-/// A row leaves at most one list of children of a sequent, so the rows say which tree they are of.
+/// In a program that is typed and descends a row leaves at most one list of children of a sequent.
 pub fn one_opening()
+    requires { OneOpening }
     ensures { OneOpening }
 {}
 
-/// Rows lead from a stack of open sequents to none exactly where they are the rows of trees that derive
-/// its sequents, one tree for each in order.
+/// Rows lead from a stack of sequents to nothing open exactly where they are those of trees that derive them.
 pub fn stack_is_trees()
+    requires { StacksAreTrees }
     ensures { StacksAreTrees }
 {}
 
-/// Rows lead from one open sequent to none exactly where they are the rows of a tree that derives it.
+/// Rows lead from one sequent to nothing open exactly where they are those of a tree that derives it.
 pub fn stack_is_tree()
+    requires { EachStackIsTree }
     ensures { EachStackIsTree }
 {}
 
 /// An obligation has at most one clause.
 pub fn one_clause()
+    requires { OneClause }
     ensures { OneClause }
 {}
 
-/// A term has at most one value and one number of calls, whatever the program and the values of its
-/// variables.
-pub fn one_meaning()
-    ensures { OneMeaning }
-{}
-
-/// Where trees derive the obligations of a plain program, each obligation holds: a clause that has a derivation
-/// is true in the language's meaning, for all values of its variables.
+/// Where trees derive the obligations of a program that is typed and descends, each obligation holds in every extension.
 pub fn derivations_are_sound()
+    requires { DerivationsAreSound }
     ensures { DerivationsAreSound }
 {}

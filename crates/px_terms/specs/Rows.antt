@@ -76,6 +76,15 @@ abbrev pub cases_from : Sequent → ℕ → ℕ → List Ty → ℕ → List Con
 cases_from s v d args k [] = []
 cases_from s v d args k (c ∷ cs) = case_of s v d args k c ∷ cases_from s v d args (k + 1) cs
 
+-- The variable is live, and its type is a datatype; the children are its cases, whatever their size.
+pub record AreCases (P : Program) (s : Sequent) (v : ℕ) (children : List Sequent) : Type 0 where
+  pub datatype : ℕ
+  pub args : List Ty
+  pub declared : DataDef
+  pub live_at : slice_get s.context.vars v ≡ Some (Some (type.Con datatype args))
+  pub stands : slice_get P.datatypes datatype ≡ Some declared
+  pub are : children ≡ cases_from s v datatype args 0 declared.cons
+
 -- a sequent where a term is constructor k on fresh variables: that is a new last fact
 abbrev pub split_of : Sequent → Term → ℕ → List Ty → ℕ → ConDef → Sequent
 split_of s t d args k c = record {
@@ -90,6 +99,16 @@ split_of s t d args k c = record {
 abbrev pub splits_from : Sequent → Term → ℕ → List Ty → ℕ → List ConDef → List Sequent
 splits_from s t d args k [] = []
 splits_from s t d args k (c ∷ cs) = split_of s t d args k c ∷ splits_from s t d args (k + 1) cs
+
+-- The term has no match, and its type is a datatype; the children are its cases, whatever their size.
+pub record AreTermCases (P : Program) (s : Sequent) (t : Term) (children : List Sequent) : Type 0 where
+  pub datatype : ℕ
+  pub args : List Ty
+  pub declared : DataDef
+  pub match_free : IsMatchFree (out-Term t)
+  pub typed : HasType P anywhere s.context t (type.Con datatype args)
+  pub stands : slice_get P.datatypes datatype ≡ Some declared
+  pub are : children ≡ splits_from s t datatype args 0 declared.cons
 
 -- the terms have different heads: two constructors or two literals that are not the same
 pub data HeadsClash : Term → Term → Type 0 where
@@ -116,6 +135,15 @@ pairs_equal (s ∷ ss) (t ∷ ts) = equals s t ∷ pairs_equal ss ts
 abbrev pub with_facts : Sequent → List Equation → Sequent
 with_facts s added = record s { facts = s.facts ++ added }
 
+-- The sides of the fact are one constructor; the child has the fields' equations as new last facts, whatever its size.
+pub record IsInjected (s : Sequent) (j : ℕ) (child : Sequent) : Type 0 where
+  pub e : Equation
+  pub fields : List Term
+  pub parts : List Term
+  pub stands : slice_get s.facts j ≡ Some e
+  pub one_head : HaveOneHead e.left e.right fields parts
+  pub is : child ≡ with_facts s (pairs_equal fields parts)
+
 -- the sequent with one alternative alone
 abbrev pub to_show : Sequent → Equation → Sequent
 to_show s e = record s { alternatives = e ∷ [] }
@@ -141,10 +169,8 @@ pub data Opens (P : Program) (n : ℕ) : Sequent → Row → List Sequent → Ty
   hypothesis : {s : Sequent} {sigma : Sigma} {own : Clause} {children : List Sequent} → sigma.types ≡ [] → sigma.funs ≡ [] →
       IsObligation P n own → SigmaMayStand sigma → FitsClause P n s.context own (own_sigma own sigma.terms) → Guard s.frame sigma.terms →
       children ≡ noted s own (own_sigma own sigma.terms) → All IsWithinLimits children → Opens P n s (row.Note reference.Hypothesis sigma) children
-  case : {s : Sequent} {v : ℕ} {D : DataDef} {children : List Sequent} → (d : ℕ) (args : List Ty) → slice_get s.context.vars v ≡ Some (Some (type.Con d args)) →
-      slice_get P.datatypes d ≡ Some D → children ≡ cases_from s v d args 0 D.cons → All IsWithinLimits children → Opens P n s (row.CaseVar v) children
-  split : {s : Sequent} {t : Term} {D : DataDef} {children : List Sequent} → (d : ℕ) (args : List Ty) → MayStand t → HasType P anywhere s.context t (type.Con d args) →
-      slice_get P.datatypes d ≡ Some D → children ≡ splits_from s t d args 0 D.cons → All IsWithinLimits children → Opens P n s (row.SplitTerm t) children
+  case : {s : Sequent} {v : ℕ} {children : List Sequent} → AreCases P s v children → All IsWithinLimits children → Opens P n s (row.CaseVar v) children
+  split : {s : Sequent} {t : Term} {children : List Sequent} → MayStand t → AreTermCases P s t children → All IsWithinLimits children →
+      Opens P n s (row.SplitTerm t) children
   clash : {s : Sequent} {j : ℕ} {e : Equation} → slice_get s.facts j ≡ Some e → HeadsClash e.left e.right → Opens P n s (row.Clash j) []
-  inject : {s child : Sequent} {j : ℕ} {e : Equation} {fields parts : List Term} → slice_get s.facts j ≡ Some e → HaveOneHead e.left e.right fields parts →
-      child ≡ with_facts s (pairs_equal fields parts) → IsWithinLimits child → Opens P n s (row.Inject j) (child ∷ [])
+  inject : {s child : Sequent} {j : ℕ} → IsInjected s j child → IsWithinLimits child → Opens P n s (row.Inject j) (child ∷ [])

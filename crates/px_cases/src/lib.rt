@@ -1,0 +1,15 @@
+//! Cases: what a sequent becomes where a variable or a term is each constructor in turn, where a fact's two sides are one
+//! constructor, and whether a fact's heads clash. The children stand in px_terms (`specs/Rows.antt`). A sequent is taken, and
+//! copied only for a second child. The limits are asked of each child before it is built on. Which row asks for this is left
+//! to whoever asks.
+#![tactic(auto)]
+
+mod ends;
+mod facts;
+mod splits;
+mod variables;
+
+pub use ends::{NoSuchFact, SplitEnd};
+pub use facts::{clashes, inject};
+pub use splits::split_term;
+pub use variables::split_variable;

@@ -1,0 +1,4 @@
+pub mod Validity
+pub mod Laws
+pub mod Examples
+pub mod ExampleLaws

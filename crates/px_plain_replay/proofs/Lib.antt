@@ -1,0 +1,13 @@
+pub mod Closings
+pub mod Counted
+pub mod Decimals
+pub mod Lists
+pub mod Numbers
+pub mod OpeningLemmas
+pub mod PartSizes
+pub mod Paths
+pub mod ReplayLemmas
+pub mod Results
+pub mod RowLemmas
+pub mod StepLemmas
+pub mod TruthValues

@@ -1,0 +1,38 @@
+//! The parts of the argument, as functions whose contracts are these laws.
+ghost use Rattle.px_soundness.specs.Argument.{FirstSequentsAreTyped, RowsAreKept, RowsAreSound, RowsKeepTyping, StepsKeepTypes, StepsKeepValues};
+
+/// A step keeps the type of a term.
+pub fn steps_keep_types()
+    requires { StepsKeepTypes }
+    ensures { StepsKeepTypes }
+{}
+
+/// A step keeps the value of a term, at all types, functions and values that make the facts true.
+pub fn steps_keep_values()
+    requires { StepsKeepValues }
+    ensures { StepsKeepValues }
+{}
+
+/// The first sequent of an obligation is typed.
+pub fn first_sequents_are_typed()
+    requires { FirstSequentsAreTyped }
+    ensures { FirstSequentsAreTyped }
+{}
+
+/// What a row leaves of a typed sequent is typed.
+pub fn rows_keep_typing()
+    requires { RowsKeepTyping }
+    ensures { RowsKeepTyping }
+{}
+
+/// A row that applies to a typed sequent applies to it in each extension of the program, and leaves the same.
+pub fn rows_are_kept()
+    requires { RowsAreKept }
+    ensures { RowsAreKept }
+{}
+
+/// A row is sound: where its children are valid at a sum of sizes, its sequent is.
+pub fn rows_are_sound()
+    requires { RowsAreSound }
+    ensures { RowsAreSound }
+{}
