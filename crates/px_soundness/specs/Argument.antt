@@ -1,5 +1,7 @@
 -- The parts of the argument that what derives is true.
 use Rattle.std.specs.Prelude.{◌≡◌, ℕ, ◌<◌, List, length, All}
+use Rattle.px_terms.specs.Head.{Head}
+use Rattle.px_terms.specs.Head.TheVariants as head
 use Rattle.px_terms.specs.declared.types.Ty.{Ty}
 use Rattle.px_terms.specs.declared.types.Fun.{Fun}
 use Rattle.px_terms.specs.declared.term.Term.{Term}
@@ -10,14 +12,17 @@ use Rattle.px_terms.specs.declared.program.Program.{Program}
 use Rattle.px_terms.specs.declared.sequent.Context.{Context}
 use Rattle.px_terms.specs.declared.sequent.Sequent.{Sequent}
 use Rattle.px_terms.specs.declared.row.Kind.{Kind}
+use Rattle.px_terms.specs.declared.row.Ref.{Ref}
+use Rattle.px_terms.specs.declared.row.Ref.TheVariants as reference
 use Rattle.px_terms.specs.declared.row.Row.{Row}
 use Rattle.px_terms.specs.Meaning.{SameValue}
-use Rattle.px_terms.specs.Typing.{anywhere, HasType, AreTypes}
+use Rattle.px_terms.specs.Typing.{anywhere, HasType, AreTypes, live}
 use Rattle.px_terms.specs.Holding.{AreTrueAt}
 use Rattle.px_terms.specs.Extending.{IsWellFounded, IsExtension, FunctionsFit, HoldsInProgram}
 use Rattle.px_terms.specs.Obligations.{IsObligation}
 use Rattle.px_terms.specs.TypedSequents.{IsTypedContext, IsTypedEquation, IsTypedSequent}
 use Rattle.px_terms.specs.Steps.{Step}
+use Rattle.px_terms.specs.Noting.{IsOpen}
 use Rattle.px_terms.specs.Rows.{Opens}
 use Rattle.px_terms.specs.Derivations.{AreFrameVariables, begins_with}
 use Rattle.px_soundness.specs.Validity.{IsAssignment, IsValidAt, IsSequentOf}
@@ -47,6 +52,32 @@ abbrev pub RowsKeepTyping : Type 0
 RowsKeepTyping =
     (Q : Program) → IsWellFounded Q → (n : ℕ) (own : Clause) → IsObligation Q n own → (on : List ℕ) →
     (s : Sequent) (r : Row) (children : List Sequent) → IsSequentOf Q own on s → Opens Q n s r children → All (IsSequentOf Q own on) children
+
+-- what the clause of a property of this head names beside its own data variables: a definition's clause has types and functions of
+-- its own, and a comparison's or a function variable's names those of the obligation at hand
+abbrev pub property_context : Clause → Head → Clause → Context
+property_context own (head.Def n) clause = record { tparams = clause.tparams; funs = clause.funs; vars = live clause.vars }
+property_context own head.Wle clause = record { tparams = own.tparams; funs = own.funs; vars = live clause.vars }
+property_context own head.Weq clause = record { tparams = own.tparams; funs = own.funs; vars = live clause.vars }
+property_context own (head.FnVar i) clause = record { tparams = own.tparams; funs = own.funs; vars = live clause.vars }
+
+-- the variables of a clause that is open to an obligation with its own clause
+abbrev pub clause_context : Clause → Ref → Clause → Context
+clause_context own (reference.Property h p) clause = property_context own h clause
+clause_context own (reference.Lemma i) clause = record { tparams = clause.tparams; funs = clause.funs; vars = live clause.vars }
+clause_context own reference.Hypothesis clause = record { tparams = clause.tparams; funs = clause.funs; vars = live clause.vars }
+
+-- The clause is typed in this context: its variables have types, and both sides of each equation have one.
+pub record IsTypedClause (Q : Program) (context : Context) (clause : Clause) : Type 0 where
+  pub types : IsTypedContext Q context
+  pub premises : All (IsTypedEquation Q context) clause.premises
+  pub alternatives : All (IsTypedEquation Q context) clause.alternatives
+
+-- what is open to an obligation is typed
+abbrev pub OpenClausesAreTyped : Type 0
+OpenClausesAreTyped =
+    (Q : Program) → IsWellFounded Q → (n : ℕ) (own : Clause) → IsObligation Q n own → (about : Ref) (clause : Clause) → IsOpen Q n own about clause →
+    IsTypedClause Q (clause_context own about clause) clause
 
 -- a row that applies to a typed sequent applies to it in each extension, and leaves the same
 abbrev pub RowsAreKept : Type 0

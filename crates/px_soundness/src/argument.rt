@@ -1,5 +1,5 @@
 //! The parts of the argument, as functions whose contracts are these laws.
-ghost use Rattle.px_soundness.specs.Argument.{FirstSequentsAreTyped, RowsAreKept, RowsAreSound, RowsKeepTyping, StepsKeepTypes, StepsKeepValues};
+ghost use Rattle.px_soundness.specs.Argument.{FirstSequentsAreTyped, OpenClausesAreTyped, RowsAreKept, RowsAreSound, RowsKeepTyping, StepsKeepTypes, StepsKeepValues};
 
 /// A step keeps the type of a term.
 pub fn steps_keep_types()
@@ -23,6 +23,12 @@ pub fn first_sequents_are_typed()
 pub fn rows_keep_typing()
     requires { RowsKeepTyping }
     ensures { RowsKeepTyping }
+{}
+
+/// What is open to an obligation is typed.
+pub fn open_clauses_are_typed()
+    requires { OpenClausesAreTyped }
+    ensures { OpenClausesAreTyped }
 {}
 
 /// A row that applies to a typed sequent applies to it in each extension of the program, and leaves the same.

@@ -9,7 +9,7 @@ mod argument;
 mod laws;
 
 pub use argument::{
-    first_sequents_are_typed, rows_are_kept, rows_are_sound, rows_keep_typing, steps_keep_types,
-    steps_keep_values,
+    first_sequents_are_typed, open_clauses_are_typed, rows_are_kept, rows_are_sound,
+    rows_keep_typing, steps_keep_types, steps_keep_values,
 };
 pub use laws::{derivations_are_sound, one_clause, one_opening, stack_is_tree, stack_is_trees};
