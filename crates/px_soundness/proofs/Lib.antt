@@ -1,0 +1,3 @@
+pub mod Found
+pub mod OneClause
+pub mod Stacks

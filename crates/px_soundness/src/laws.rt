@@ -9,19 +9,16 @@ pub fn one_opening()
 
 /// Rows lead from a stack of sequents to nothing open exactly where they are those of trees that derive them.
 pub fn stack_is_trees()
-    requires { StacksAreTrees }
     ensures { StacksAreTrees }
 {}
 
 /// Rows lead from one sequent to nothing open exactly where they are those of a tree that derives it.
 pub fn stack_is_tree()
-    requires { EachStackIsTree }
     ensures { EachStackIsTree }
 {}
 
 /// An obligation has at most one clause.
 pub fn one_clause()
-    requires { OneClause }
     ensures { OneClause }
 {}
 
