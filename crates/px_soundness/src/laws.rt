@@ -1,5 +1,8 @@
 //! What is said of derivations, as functions whose contracts are these laws.
+ghost use Rattle.px_soundness.specs.Argument.{FirstSequentsAreTyped, RowsAreKept, RowsAreSound, RowsKeepTyping};
 ghost use Rattle.px_soundness.specs.Laws.{DerivationsAreSound, EachStackIsTree, OneClause, OneOpening, StacksAreTrees};
+
+use px_totality::extensions_keep;
 
 /// In a program that is typed and descends a row leaves at most one list of children of a sequent.
 pub fn one_opening()
@@ -24,6 +27,11 @@ pub fn one_clause()
 
 /// Where trees derive the obligations of a program that is typed and descends, each obligation holds in every extension.
 pub fn derivations_are_sound()
-    requires { DerivationsAreSound }
+    requires first { FirstSequentsAreTyped }
+    requires keep { RowsKeepTyping }
+    requires kept { RowsAreKept }
+    requires sound { RowsAreSound }
     ensures { DerivationsAreSound }
-{}
+{
+    extensions_keep();
+}
