@@ -1,5 +1,10 @@
+pub mod Forward
 pub mod Found
 pub mod ObligationsHold
 pub mod OneClause
+pub mod PlainRowsAreSound
+pub mod Sides
 pub mod Stacks
 pub mod TreesAreSound
+pub mod Truths
+pub mod Weaker
