@@ -1,5 +1,6 @@
 -- A step keeps the type of a term.
-use Rattle.std.proofs.Common.{◌≡◌, ℕ, zero, suc, List, [], ◌∷◌, ◌++◌, map, reverse, length, Bool, true, false, nat_le, ◌==◌, Option, Some, slice_get, refl, sym, ap, ◌∙◌, subst}
+use Rattle.std.proofs.Common.{◌≡◌, ℕ, zero, suc, List, [], ◌∷◌, ◌++◌, map, reverse, length, Bool, true, false}
+use Rattle.std.proofs.Common.{nat_le, ◌==◌, Some, slice_get, refl, sym, ap, ◌∙◌, subst}
 use Rattle.std.specs.List.{All}
 use Rattle.px_terms.specs.Head.{Head}
 use Rattle.px_terms.specs.Head.TheVariants.{Def, Wle, Weq, FnVar}
@@ -21,11 +22,11 @@ use Rattle.px_terms.specs.declared.row.Kind.{Kind}
 use Rattle.px_terms.specs.Types.{ty_instance, tys_instance, fn_type_instance}
 use Rattle.px_terms.specs.Terms.{term_instance}
 use Rattle.px_terms.specs.Programs.{bool_type, bool_data, body_of, constructor_at}
-use Rattle.px_terms.specs.Typing.{anywhere, in_body, IsType, AreTypes, IsFunction, AreArguments, HasTypeLayer, HaveTypes, HaveTypesInArms, HasType, live}
+use Rattle.px_terms.specs.Typing.{anywhere, in_body, IsType, AreTypes, IsFunction}
+use Rattle.px_terms.specs.Typing.{AreArguments, HasTypeLayer, HaveTypes, HaveTypesInArms, HasType, live}
 use Rattle.px_terms.specs.Typing as typing
 use Rattle.px_terms.specs.TypedPrograms.{IsTyped, IsTypedDef, IsWrittenFnType, own_context}
-use Rattle.px_terms.specs.TypedSequents.{IsTypedContext, IsTypedEquation}
-use Rattle.px_terms.specs.Extending.{IsWellFounded}
+use Rattle.px_terms.specs.TypedSequents.{IsTypedEquation}
 use Rattle.px_terms.specs.Steps.{with_fields, truth_term, Turns, Step}
 use Rattle.px_terms.specs.Steps as steps
 use Rattle.px_totality.specs.Laws.{IsContext}
@@ -172,7 +173,8 @@ module _ (Q : Program) (typed : IsTyped Q) (context : Context) where
   unfolded n types funs args body T call e =
       let taken : OfDefinition Q context n types call.takes call.params T = taken_by Q context call.function in
       let D : definition.Def = taken.D in
-      let made : IsMapped (slice_get Q.defs n) (λ (D : definition.Def). D.body) body = is_mapped (slice_get Q.defs n) (λ (D : definition.Def). D.body) body e in
+      let made : IsMapped (slice_get Q.defs n) (λ (D : definition.Def). D.body) body =
+      is_mapped (slice_get Q.defs n) (λ (D : definition.Def). D.body) body e in
       let same : D.body ≡ body = ap (λ (D : definition.Def). D.body) (one_item D made.item (sym taken.found ∙ made.is)) ∙ made.gives in
       let def : IsTypedDef Q n D = typed.defs n D taken.found in
       let fit : AreArguments Q anywhere context funs (map (fn_type_instance types) D.funs) =
@@ -181,9 +183,9 @@ module _ (Q : Program) (typed : IsTyped Q) (context : Context) where
       subst (HaveTypes Q anywhere context [] args) taken.params_is call.have in
       let put_in : (i : ℕ) (S : Ty) → slice_get (live D.params) i ≡ Some (Some S) → PutIn Q context args i (ty_instance types S) =
       λ i S at.
-          let there : TermOf Q anywhere context [] args i (ty_instance types S) =
-          term_of Q anywhere context have i (ty_instance types S) (mapped_at (ty_instance types) D.params i S (variable_type D.params i S at)) in
-          record { t = there.t; at = there.at; is = there.typed } in
+      let there : TermOf Q anywhere context [] args i (ty_instance types S) =
+      term_of Q anywhere context have i (ty_instance types S) (mapped_at (ty_instance types) D.params i S (variable_type D.params i S at)) in
+      record { t = there.t; at = there.at; is = there.typed } in
       let kept = instance_keeps Q typed (in_body n) (own_context D) context (own_is_context n D def) types taken.many taken.are funs fit args put_in
       D.body D.result def.body in
       subst (λ (t : Term). HasType Q anywhere context (term_instance (record { types = types; funs = funs; terms = args }) t) T) same
@@ -240,7 +242,8 @@ module _ (Q : Program) (typed : IsTyped Q) (context : Context) where
     turned : {kind : Kind} {part t : Term} (T : Ty) → Turns Q facts kind part t → HasType Q anywhere context part T → HasType Q anywhere context t T
     turned T (steps.unfolds {part = part} {body = body} {n = n} {types = types} {funs = funs} {args = args} part_is found t_is) is =
         subst (λ (t : Term). HasType Q anywhere context t T) (sym t_is) (unfolded n types funs args body T (part_rests part is part_is) found)
-    turned T (steps.selects {part = part} {on = on} {arm = arm} {d = d} {e = e} {k = k} {types = types} {us = us} {arms = arms} {fields = fields} part_is on_is at t_is) is =
+    turned T (steps.selects {part = part} {on = on} {arm = arm} {d = d} {e = e} {k = k} {types = types} {us = us} {arms = arms} {fields = fields}
+        part_is on_is at t_is) is =
         subst (λ (t : Term). HasType Q anywhere context t T) (sym t_is)
         (selected on arm d e k types us arms fields T (part_rests part is part_is) on_is at)
     turned T (steps.compares_order {part = part} {t = t} {a = a} {b = b} {types = types} {funs = funs} {x = x} {y = y} part_is a_is b_is t_is) is =

@@ -1,24 +1,23 @@
 -- A term has at most one type at its place.
-use Rattle.std.proofs.Common.{◌≡◌, ℕ, ◌<◌, List, [], ◌∷◌, ◌++◌, reverse, length, Option, Some, None, slice_get, refl, sym, ap, ◌∙◌, subst, arith}
+use Rattle.std.proofs.Common.{◌≡◌, ℕ, ◌<◌, List, length, Some, slice_get, sym, ap, ◌∙◌, subst, arith}
 use Rattle.px_terms.specs.declared.types.Ty.{Ty}
-use Rattle.px_terms.specs.declared.types.Ty.TheVariants as type
 use Rattle.px_terms.specs.declared.types.FnType.{FnType}
 use Rattle.px_terms.specs.declared.types.Fun.{Fun}
 use Rattle.px_terms.specs.Head.{Head}
 use Rattle.px_terms.specs.Head.TheVariants.{Def, Wle, Weq, FnVar}
-use Rattle.px_terms.specs.declared.term.Term.{Term, out-Term}
+use Rattle.px_terms.specs.declared.term.Term.{Term}
 use Rattle.px_terms.specs.declared.term.Term.TheOpen.{Term-F}
 use Rattle.px_terms.specs.declared.program.ConDef.{ConDef}
 use Rattle.px_terms.specs.declared.program.DataDef.{DataDef}
 use Rattle.px_terms.specs.declared.program.Def as definition
 use Rattle.px_terms.specs.declared.program.Program.{Program}
 use Rattle.px_terms.specs.declared.sequent.Context.{Context}
-use Rattle.px_terms.specs.Types.{ty_instance, tys_instance}
+use Rattle.px_terms.specs.Types.{ty_instance}
 use Rattle.px_terms.specs.Programs.{bool_type}
 use Rattle.px_terms.specs.Typing.{Place, IsFunction, HasTypeLayer, HaveTypesInArms}
 use Rattle.px_terms.specs.Typing as typing
 use Rattle.px_terms.specs.TypedPrograms.{IsTyped}
-use Rattle.px_totality.proofs.Instances.{nothing_is_some, one_item}
+use Rattle.px_totality.proofs.Instances.{one_item}
 use Rattle.px_totality.proofs.TypesOfTerms.{data_is_typed}
 
 -- What a definition gives at these types.
@@ -47,7 +46,8 @@ given_by Q context (typing.at_most is) = is
 given_by Q context (typing.equal is) = is
 given_by Q context (typing.of_variable {F = F} found params_are is) = record { F = F; found = found; is = is }
 
-one_given : (Q : Program) (context : Context) (h : Head) (types : List Ty) (T U : Ty) → GivenBy Q context h types T → GivenBy Q context h types U → T ≡ U
+one_given : (Q : Program) (context : Context) (h : Head) (types : List Ty) (T U : Ty) → GivenBy Q context h types T →
+    GivenBy Q context h types U → T ≡ U
 one_given Q context (Def n) types T U x y =
     let same : x.D ≡ y.D = one_item x.D y.D (sym x.found ∙ y.found) in
     x.is ∙ ap (λ (D : definition.Def). ty_instance types D.result) same ∙ sym y.is
@@ -59,7 +59,8 @@ one_given Q context (FnVar i) types T U x y =
 
 module _ (Q : Program) (typed : IsTyped Q) (place : Place) (context : Context) where
   mutual
-    pub one_type : {bound : List Ty} {y : Term-F Term} {T U : Ty} → HasTypeLayer Q place context bound y T → HasTypeLayer Q place context bound y U → T ≡ U
+    pub one_type : {bound : List Ty} {y : Term-F Term} {T U : Ty} → HasTypeLayer Q place context bound y T →
+        HasTypeLayer Q place context bound y U → T ≡ U
     one_type (typing.free {T = T} at met) (typing.free {T = U} other other_met) = one_item T U (one_item (Some T) (Some U) (sym at ∙ other))
     one_type (typing.bound {T = T} at met) (typing.bound {T = U} other other_met) = one_item T U (sym at ∙ other)
     one_type (typing.lit small e) (typing.lit other_small other) = e ∙ sym other

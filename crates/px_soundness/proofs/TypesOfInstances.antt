@@ -1,5 +1,6 @@
 -- A typed term with types, functions and terms put in for its variables is typed anywhere.
-use Rattle.std.proofs.Common.{◌≡◌, ℕ, zero, suc, List, [], ◌∷◌, ◌++◌, map, reverse, length, Option, Some, None, slice_get, unwrap_or, refl, sym, ap, ◌∙◌, subst, subst₂}
+use Rattle.std.proofs.Common.{◌≡◌, ℕ, zero, suc, List, [], ◌∷◌, ◌++◌, map, reverse, length, Option, Some}
+use Rattle.std.proofs.Common.{slice_get, unwrap_or, refl, sym, ap, ◌∙◌, subst, subst₂}
 use Rattle.std.specs.List.{All}
 use Rattle.std.specs.Option.{IsSomeAnd}
 use Rattle.std.proofs.lemmas.List.{length-map, map-append, reverse-append}
@@ -19,7 +20,6 @@ use Rattle.px_terms.specs.declared.term.Term.TheOpen.{Term-F}
 use Rattle.px_terms.specs.declared.clause.Sigma.{Sigma}
 use Rattle.px_terms.specs.declared.program.ConDef.{ConDef}
 use Rattle.px_terms.specs.declared.program.DataDef.{DataDef}
-use Rattle.px_terms.specs.declared.program.Def as definition
 use Rattle.px_terms.specs.declared.program.Program.{Program}
 use Rattle.px_terms.specs.declared.sequent.Context.{Context}
 use Rattle.px_terms.specs.Types.{ty_instance, tys_instance, fn_type_instance, fun_instance}
@@ -27,15 +27,18 @@ use Rattle.px_terms.specs.Terms.{term_instance}
 use Rattle.px_terms.specs.TreeEquations.{ty_instance-Word, ty_instance-Con, term_instance-Free, term_instance-Bound, term_instance-Lit}
 use Rattle.px_terms.specs.TreeEquations.{term_instance-Con, term_instance-Call, term_instance-Match}
 use Rattle.px_terms.specs.Programs.{bool_type, constructor_at}
-use Rattle.px_terms.specs.Typing.{Place, anywhere, IsType, AreTypes, IsFunction, MayCall, MayPass, IsDeclaredBefore, IsSaid, IsKnown, IsArgument, AreArguments}
+use Rattle.px_terms.specs.Typing.{Place, anywhere, IsType, AreTypes, IsFunction, MayCall}
+use Rattle.px_terms.specs.Typing.{MayPass, IsDeclaredBefore, IsSaid, IsKnown, IsArgument, AreArguments}
 use Rattle.px_terms.specs.Typing.{HasTypeLayer, HaveTypes, HaveTypesInArms}
 use Rattle.px_terms.specs.Typing as typing
 use Rattle.px_terms.specs.TypedPrograms.{IsTyped, IsTypedData, IsTypedCon, HasSignature, IsWrittenFnType}
 use Rattle.px_terms.specs.Implied.{Closure}
 use Rattle.px_terms.specs.Implied as implied
 use Rattle.px_totality.specs.Laws.{IsContext}
-use Rattle.px_totality.proofs.Instances.{nothing_is_some, one_item, written_types, instances_are_types, instance_is_type, instances_twice, instance_twice}
-use Rattle.px_totality.proofs.TypesOfTerms.{all_at, StandsIn, stands_in, fields_are_types, are_types_append, are_types_reversed, DataType, data_type, data_is_typed, type_of}
+use Rattle.px_totality.proofs.Instances.{nothing_is_some, one_item, written_types}
+use Rattle.px_totality.proofs.Instances.{instances_are_types, instance_is_type, instances_twice, instance_twice}
+use Rattle.px_totality.proofs.TypesOfTerms.{all_at, StandsIn, stands_in, fields_are_types, are_types_append}
+use Rattle.px_totality.proofs.TypesOfTerms.{are_types_reversed, DataType, data_type, data_is_typed, type_of}
 use Rattle.px_totality.proofs.ArgumentsFit.{closure_weaker}
 use Rattle.px_soundness.proofs.TypesOfLists.{mapped_at, of_layer, weaker}
 

@@ -1,5 +1,5 @@
 -- The part of a typed term at a path has a type, and another one of that type may stand in its place.
-use Rattle.std.proofs.Common.{◌≡◌, ℕ, zero, suc, List, [], ◌∷◌, map, Option, Some, None, slice_get, slice_set, refl, sym, ap, ◌∙◌, subst}
+use Rattle.std.proofs.Common.{◌≡◌, ℕ, zero, suc, List, [], ◌∷◌, Option, Some, slice_get, slice_set, sym, ap, ◌∙◌, subst}
 use Rattle.std.specs.Option.{option_and_then, option_map}
 use Rattle.px_terms.specs.declared.types.Ty.{Ty}
 use Rattle.px_terms.specs.declared.term.Term.{Term, out-Term}
@@ -11,7 +11,7 @@ use Rattle.px_terms.specs.Terms.{children_of, children, subterm, with_child_of, 
 use Rattle.px_terms.specs.Typing.{Place, HasTypeLayer}
 use Rattle.px_terms.specs.Typing as typing
 use Rattle.px_totality.proofs.Instances.{nothing_is_some, one_item}
-use Rattle.px_soundness.proofs.TypesOfLists.{Follows, follows, IsMapped, is_mapped, of_layer, TypedAt, typed_at}
+use Rattle.px_soundness.proofs.TypesOfLists.{Follows, follows, IsMapped, is_mapped, of_layer, typed_at}
 
 module _ (Q : Program) (place : Place) (context : Context) where
   -- The child has a type, and with another one of that type the term has its type still.

@@ -1,5 +1,6 @@
 -- An arm with the fields of its constructor put in for its pattern variables is typed.
-use Rattle.std.proofs.Common.{◌≡◌, ℕ, zero, suc, ◌+◌, List, [], ◌∷◌, ◌++◌, map, reverse, length, Option, Some, slice_get, unwrap_or, refl, sym, ap, ◌∙◌, subst}
+use Rattle.std.proofs.Common.{◌≡◌, ℕ, suc, ◌+◌, List, [], ◌∷◌, ◌++◌, map, reverse, length, Option, Some, slice_get, unwrap_or}
+use Rattle.std.proofs.Common.{sym, ap, ◌∙◌, subst}
 use Rattle.std.proofs.Common.{arith, append_assoc, length-append, append-nil}
 use Rattle.std.specs.Option.{option_map}
 use Rattle.std.proofs.lemmas.List.{length-map, length-reverse}
@@ -8,7 +9,7 @@ use Rattle.px_terms.specs.declared.term.Term.{Term, out-Term}
 use Rattle.px_terms.specs.declared.term.Term.TheVariants as term
 use Rattle.px_terms.specs.declared.term.Term.TheViews.{roll-Term, roll-out-Term}
 use Rattle.px_terms.specs.declared.term.Term.TheOpen.{Term-F}
-use Rattle.px_terms.specs.declared.term.Term.TheFolds.{fold-Term, fold-roll-Term}
+use Rattle.px_terms.specs.declared.term.Term.TheFolds.{fold-Term, map-Term, fold-roll-Term}
 use Rattle.px_terms.specs.declared.program.ConDef.{ConDef}
 use Rattle.px_terms.specs.declared.program.DataDef.{DataDef}
 use Rattle.px_terms.specs.declared.program.Program.{Program}
@@ -18,7 +19,6 @@ use Rattle.px_terms.specs.Descent.{field_count}
 use Rattle.px_terms.specs.Steps.{around_part, arms_with, fields_step, with_fields}
 use Rattle.px_terms.specs.Typing.{anywhere, HasTypeLayer, HaveTypes, HaveTypesInArms}
 use Rattle.px_terms.specs.Typing as typing
-use Rattle.px_totality.proofs.Instances.{nothing_is_some, one_item}
 use Rattle.px_totality.proofs.TypesOfTerms.{constructor_of}
 use Rattle.px_soundness.proofs.TypesOfLists.{of_layer, TermOf, term_of, have_append, have_reversed, all_weaker}
 
@@ -64,37 +64,39 @@ module _ (Q : Program) (context : Context) where
         ap (λ (part : ℕ → Term). part (length inner)) (fold-roll-Term (ℕ → Term) (fields_step Q fields) (Term-F.Bound i)) in
         subst (λ (t : Term). HasTypeLayer Q anywhere context inner (out-Term t) T) (sym (made ∙ stands)) there.typed
 
+    -- what the layer of a term with the fields put in is, by what its parts are with them put in
+    put_is : (inner : List Ty) (y z : Term-F Term) →
+        out-Term (fields_step Q fields (map-Term Term (ℕ → Term) put y) (length inner)) ≡ z →
+        out-Term (put (roll-Term y) (length inner)) ≡ z
+    put_is inner y z e = ap (λ (part : ℕ → Term). out-Term (part (length inner))) (fold-roll-Term (ℕ → Term) (fields_step Q fields) y) ∙ e
+
     mutual
       layer_keeps : {bound : List Ty} {y : Term-F Term} {T : Ty} → HasTypeLayer Q anywhere context bound y T → (inner : List Ty) →
           bound ≡ inner ++ reverse types → Keeps inner (roll-Term y) T
       layer_keeps (typing.free {n = n} found met) inner e =
           of_layer Q anywhere context (put (roll-Term (Term-F.Free n)) (length inner))
-          (ap (λ (part : ℕ → Term). out-Term (part (length inner))) (fold-roll-Term (ℕ → Term) (fields_step Q fields) (Term-F.Free n)) ∙ term.outs-Free n)
+          (put_is inner (Term-F.Free n) (Term-F.Free n) (term.outs-Free n))
           (typing.free found tt)
       layer_keeps (typing.bound {n = n} {T = T} found met) inner e =
           bound_keeps inner n T (ap (λ (bound : List Ty). slice_get bound n) (sym e) ∙ found)
       layer_keeps (typing.lit {w = w} small is) inner e =
           of_layer Q anywhere context (put (roll-Term (Term-F.Lit w)) (length inner))
-          (ap (λ (part : ℕ → Term). out-Term (part (length inner))) (fold-roll-Term (ℕ → Term) (fields_step Q fields) (Term-F.Lit w)) ∙ term.outs-Lit w)
+          (put_is inner (Term-F.Lit w) (Term-F.Lit w) (term.outs-Lit w))
           (typing.lit small is)
       layer_keeps (typing.con {d = d} {k = k} {types = us} {fields = parts} found is T_is met parts_have) inner e =
           let new : List Term = map (λ (part : ℕ → Term). part (length inner)) (map put parts) in
           of_layer Q anywhere context (put (roll-Term (Term-F.Con d k us parts)) (length inner))
-          (ap (λ (part : ℕ → Term). out-Term (part (length inner))) (fold-roll-Term (ℕ → Term) (fields_step Q fields) (Term-F.Con d k us parts))
-          ∙ term.outs-Con d k us new)
+          (put_is inner (Term-F.Con d k us parts) (Term-F.Con d k us new) (term.outs-Con d k us new))
           (typing.con found is T_is tt (all_keep parts_have inner e))
       layer_keeps (typing.call {f = f} {funs = funs} {args = args} function may types_met met arguments args_have) inner e =
           let new : List Term = map (λ (part : ℕ → Term). part (length inner)) (map put args) in
           of_layer Q anywhere context (put (roll-Term (Term-F.Call f funs args)) (length inner))
-          (ap (λ (part : ℕ → Term). out-Term (part (length inner))) (fold-roll-Term (ℕ → Term) (fields_step Q fields) (Term-F.Call f funs args))
-          ∙ term.outs-Call f funs new)
+          (put_is inner (Term-F.Call f funs args) (Term-F.Call f funs new) (term.outs-Call f funs new))
           (typing.call function may types_met met arguments (all_keep args_have inner e))
       layer_keeps (typing.choose {on = on} {d = d} {types = us} {arms = arms} {U = U} {D = D} is U_is found arms_have) inner e =
-          let m : ℕ = length inner in
           let new : List Term = arms_with Q d 0 (map put arms) (length inner) in
           of_layer Q anywhere context (put (roll-Term (Term-F.Match on d us arms)) (length inner))
-          (ap (λ (part : ℕ → Term). out-Term (part (length inner))) (fold-roll-Term (ℕ → Term) (fields_step Q fields) (Term-F.Match on d us arms))
-          ∙ term.outs-Match (put on (length inner)) d us new)
+          (put_is inner (Term-F.Match on d us arms) (Term-F.Match (put on (length inner)) d us new) (term.outs-Match (put on (length inner)) d us new))
           (typing.choose (subst (λ (t : Term). Keeps inner t U) (roll-out-Term on) (layer_keeps is inner e)) U_is found
           (arms_keep arms_have inner e d D found 0 (λ i. let same : 0 + i ≡ i = omega arith in ap (slice_get D.cons) same)))
 
