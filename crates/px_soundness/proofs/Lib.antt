@@ -5,6 +5,12 @@ pub mod OneClause
 pub mod PlainRowsAreSound
 pub mod Sides
 pub mod Stacks
+pub mod StepsKeepTypes
 pub mod TreesAreSound
 pub mod Truths
+pub mod TypesAreOne
+pub mod TypesOfInstances
+pub mod TypesOfLists
+pub mod TypesOfParts
+pub mod TypesOfSelected
 pub mod Weaker

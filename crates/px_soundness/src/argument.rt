@@ -3,7 +3,6 @@ ghost use Rattle.px_soundness.specs.Argument.{FirstSequentsAreTyped, OpenClauses
 
 /// A step keeps the type of a term.
 pub fn steps_keep_types()
-    requires { StepsKeepTypes }
     ensures { StepsKeepTypes }
 {}
 
