@@ -1,0 +1,4 @@
+pub mod ValuesForward
+pub mod ValuesKeeping
+pub mod ValuesOfSteps
+pub mod ValuesPutIn
