@@ -3,7 +3,7 @@ use Rattle.std.proofs.Common.{◌≡◌, ℕ, zero, suc, ◌+◌, List, [], ◌�
 use Rattle.std.proofs.Common.{◌∙◌, ◌<◌, ◌^◌, subst, append_assoc, arith}
 use Rattle.std.specs.List.{All}
 use Rattle.std.proofs.lemmas.Option.{none-some, same_Some, slice_get-map}
-use Rattle.std.proofs.lemmas.List.{length-append, length-map, length-reverse, map-append, reverse-append}
+use Rattle.std.proofs.lemmas.List.{append-nil, length-append, length-map, length-reverse, map-append, reverse-append}
 use Rattle.px_terms.specs.declared.types.Ty.{Ty, out-Ty}
 use Rattle.px_terms.specs.declared.types.Ty.TheVariants as type
 use Rattle.px_terms.specs.declared.types.Ty.TheOpen.{Ty-F}
@@ -40,6 +40,7 @@ use Rattle.px_totality.proofs.TypesOfTerms.{data_is_typed, fields_are_types, typ
 use Rattle.px_totality.proofs.Total.{AreTotal}
 use Rattle.px_totality.proofs.Calls.{CallsGive, AllMeant, Called, arguments_meant, call_gives}
 use Rattle.px_totality.proofs.EachIsTotal.{each_gives, passed_total}
+use Rattle.px_totality.proofs.Unique.{unique}
 use Rattle.px_totality.proofs.Valued.{IsBuilt, built, FitVariables, are_in_append, as_many}
 use Rattle.px_soundness.proofs.ValuesForward.{HasMeaning, HaveMeanings, layer_means, same_term, more_bound_all}
 use Rattle.px_soundness.proofs.ValuesPutIn.{value_at}
@@ -201,13 +202,13 @@ module _ (Q : Program) (founded : IsWellFounded Q) (place : Place) (context : Co
       same_term Q ts gs rho mids there.0 (unwrap_or (slice_get (around_part (length mids) fields) i) (Bound i)) v is there.2
 
   -- What is asked of the constructor that chooses an arm: the one of this number, from constructor j on.
-  record Chosen (d j i : ℕ) (types : List Ty) (cs : List ConDef) (ws : List Value) : Type 0 where
-    c : ConDef
-    at : slice_get cs i ≡ Some c
-    found : constructor_at Q d (j + i) ≡ Some c
-    are : AreTypes Q context.tparams types
-    field_types : AreTypes Q (length types) c.fields
-    in_fields : AreIn Q (tys_instance (tys_instance ts types) c.fields) ws
+  pub record Chosen (d j i : ℕ) (types : List Ty) (cs : List ConDef) (ws : List Value) : Type 0 where
+    pub c : ConDef
+    pub at : slice_get cs i ≡ Some c
+    pub found : constructor_at Q d (j + i) ≡ Some c
+    pub are : AreTypes Q context.tparams types
+    pub field_types : AreTypes Q (length types) c.fields
+    pub in_fields : AreIn Q (tys_instance (tys_instance ts types) c.fields) ws
 
   later_chosen : (d j i : ℕ) (types : List Ty) (c : ConDef) (cs : List ConDef) (ws : List Value) → Chosen d j (suc i) types (c ∷ cs) ws →
       Chosen d (j + 1) i types cs ws
@@ -249,7 +250,7 @@ module _ (Q : Program) (founded : IsWellFounded Q) (place : Place) (context : Co
       (around_arm types outer it.c ws mids it.are it.field_types it.in_fields around)
 
   -- what is chosen of a match's arms by the value that it is on
-  chosen_of : (d : ℕ) (types : List Ty) (U : Ty) (D : DataDef) (u : Value) (b : IsBuilt Q u d (tys_instance ts types)) →
+  pub chosen_of : (d : ℕ) (types : List Ty) (U : Ty) (D : DataDef) (u : Value) (b : IsBuilt Q u d (tys_instance ts types)) →
       IsType Q context.tparams U → U ≡ type.Con d types → slice_get Q.datatypes d ≡ Some D → Chosen d 0 b.k types D.cons b.fields
   chosen_of d types U D u b is e found =
       let of_type : DataType Q context.tparams D types = data_type Q context.tparams d D types U is e found in
@@ -437,3 +438,25 @@ module _ (Q : Program) (founded : IsWellFounded Q) (place : Place) (context : Co
         (both has (bind ws mids) (around_first d j types outer c cs ws mids it around))
     arms_both (typing.arm {types = types} {c = c} {cs = cs} {body = body} {arms = arms} {T = T} met has have) d j (suc i) ws mids it around =
         later_arm d j i body arms T ws mids (arms_both have d (j + 1) i ws mids (later_chosen d j i types c cs ws it) around)
+
+  -- an arm keeps its value with the fields put in, where these have the values that are bound
+  pub arm_keeps : (types : List Ty) (c : ConDef) (arm : Term) (T : Ty) → AreTypes Q context.tparams types → AreTypes Q (length types) c.fields →
+      AreIn Q (tys_instance (tys_instance ts types) c.fields) us →
+      HasTypeLayer Q place context (reverse (tys_instance types c.fields) ++ []) (out-Term arm) T →
+      (v : Value) (n : ℕ) → MeansOf Q ts gs rho (bind us []) (out-Term arm) v n → HasMeaning Q ts gs rho [] (with_fields Q fields arm) v
+  arm_keeps types c arm T are field_types in_fields has v n means =
+      let own : List Ty = tys_instance types c.fields in
+      let twice : tys_instance ts own ≡ tys_instance (tys_instance ts types) c.fields = instances_twice Q ts types field_types in
+      let here : AreIn Q (tys_instance ts own) us = subst (λ (types : List Ty). AreIn Q types us) (sym twice) in_fields in
+      let around : Around (reverse own) [] = record {
+        are_types = are_types_reversed Q context.tparams (instances_are_types Q context.tparams types are field_types);
+        are_in = subst (λ (types : List Ty). AreIn Q types (reverse us)) (sym (map_reversed (ty_instance ts) own)) (are_in_reversed Q here);
+      } in
+      let has_here : HasTypeLayer Q place context (reverse own) (out-Term arm) T =
+      subst (λ (types : List Ty). HasTypeLayer Q place context types (out-Term arm) T) (append-nil (reverse own)) has in
+      let it : Both [] (out-Term arm) T = both has_here [] around in
+      let means_here : MeansOf Q ts gs rho (reverse us) (out-Term arm) v n =
+      subst (λ (inner : List Value). MeansOf Q ts gs rho inner (out-Term arm) v n) (append-nil (reverse us)) means in
+      let same : it.v ≡ v = (unique Q ts gs rho (reverse us) (out-Term arm) it.v v it.count n it.means means_here).0 in
+      subst (HasMeaning Q ts gs rho [] (with_fields Q fields arm)) same
+      (same_term Q ts gs rho [] (put_of Q fields (out-Term arm) 0) (put_in Q fields arm 0) it.v (put_is Q fields arm 0) it.put)
