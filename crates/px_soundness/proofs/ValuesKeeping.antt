@@ -20,18 +20,23 @@ record Goes (s : Term) (n : ℕ) (path : List ℕ) (part becomes t : Term) : Typ
   put : replaced child path becomes ≡ Some new
   whole : with_child s n new ≡ t
 
-goes_to : (s : Term) (n : ℕ) (path : List ℕ) (part becomes t child : Term) → slice_get (children s) n ≡ Some child → subterm child path ≡ Some part → (o : Option Term) → replaced child path becomes ≡ o → option_map (with_child s n) o ≡ Some t → Goes s n path part becomes t
+goes_to : (s : Term) (n : ℕ) (path : List ℕ) (part becomes t child : Term) → slice_get (children s) n ≡ Some child → subterm child path ≡ Some part →
+    (o : Option Term) → replaced child path becomes ≡ o → option_map (with_child s n) o ≡ Some t → Goes s n path part becomes t
 goes_to s n path part becomes t child at deeper None put whole = absurd (none-some t whole)
-goes_to s n path part becomes t child at deeper (Some new) put whole = record { child = child; new = new; at = at; deeper = deeper; put = put; whole = same_Some (with_child s n new) t whole }
+goes_to s n path part becomes t child at deeper (Some new) put whole =
+    record { child = child; new = new; at = at; deeper = deeper; put = put; whole = same_Some (with_child s n new) t whole }
 
-goes : (s : Term) (n : ℕ) (path : List ℕ) (part becomes t : Term) → (o : Option Term) → slice_get (children s) n ≡ o → option_and_then (λ child. subterm child path) o ≡ Some part → option_and_then (λ child. option_map (with_child s n) (replaced child path becomes)) o ≡ Some t → Goes s n path part becomes t
+goes : (s : Term) (n : ℕ) (path : List ℕ) (part becomes t : Term) → (o : Option Term) → slice_get (children s) n ≡ o →
+    option_and_then (λ child. subterm child path) o ≡ Some part →
+    option_and_then (λ child. option_map (with_child s n) (replaced child path becomes)) o ≡ Some t → Goes s n path part becomes t
 goes s n path part becomes t None at deeper whole = absurd (none-some part deeper)
 goes s n path part becomes t (Some child) at deeper whole = goes_to s n path part becomes t child at deeper (replaced child path becomes) refl whole
 
 module _ (P : Program) (types : List Ty) (funs : List Fun) (rho bound : List Value) where
   -- where the one term has a value, the other has it too
   abbrev pub Keeps : Term → Term → Type 0
-  Keeps part becomes = (v : Value) (c : ℕ) → MeansOf P types funs rho bound (out-Term part) v c → (e : ℕ) × MeansOf P types funs rho bound (out-Term becomes) v e
+  Keeps part becomes = (v : Value) (c : ℕ) → MeansOf P types funs rho bound (out-Term part) v c →
+      (e : ℕ) × MeansOf P types funs rho bound (out-Term becomes) v e
 
   with_same : (s t : Term) (v : Value) (c : ℕ) → s ≡ t → MeansOf P types funs rho bound (out-Term s) v c → MeansOf P types funs rho bound (out-Term t) v c
   with_same s t v c same means = subst (λ z. MeansOf P types funs rho bound (out-Term z) v c) same means
@@ -40,7 +45,8 @@ module _ (P : Program) (types : List Ty) (funs : List Fun) (rho bound : List Val
   with_layer y z v c same means = subst (λ x. MeansOf P types funs rho bound x v c) (sym same) means
 
   -- another item of the same value keeps the values of a list
-  pub all_kept : (ts : List Term) (n : ℕ) (child by : Term) → slice_get ts n ≡ Some child → Keeps child by → (vs : List Value) (c : ℕ) → MeanAll P types funs rho bound ts vs c → (e : ℕ) × MeanAll P types funs rho bound (slice_set ts n by) vs e
+  pub all_kept : (ts : List Term) (n : ℕ) (child by : Term) → slice_get ts n ≡ Some child → Keeps child by → (vs : List Value) (c : ℕ) →
+      MeanAll P types funs rho bound ts vs c → (e : ℕ) × MeanAll P types funs rho bound (slice_set ts n by) vs e
   all_kept [] n child by at keeps vs c all = absurd (none-some child at)
   all_kept (t ∷ ts) zero child by at keeps _ c (more {v = v} {vs = vs} {a = a} {b = b} means mean total) =
       let there = keeps v a (with_same t child v a (same_Some t child at) means) in
@@ -54,22 +60,33 @@ module _ (P : Program) (types : List Ty) (funs : List Fun) (rho bound : List Val
   only_child on (suc n) child at = absurd (none-some child at)
 
   -- another child of the same value keeps the value of a layer
-  pub child_kept : (y : Term-F Term) (s : Term) (n : ℕ) (child by : Term) → slice_get (children_of y) n ≡ Some child → Keeps child by → (v : Value) (c : ℕ) → MeansOf P types funs rho bound y v c → (e : ℕ) × MeansOf P types funs rho bound (out-Term (with_child_of y s n by)) v e
+  pub child_kept : (y : Term-F Term) (s : Term) (n : ℕ) (child by : Term) → slice_get (children_of y) n ≡ Some child → Keeps child by → (v : Value) (c : ℕ) →
+      MeansOf P types funs rho bound y v c → (e : ℕ) × MeansOf P types funs rho bound (out-Term (with_child_of y s n by)) v e
   child_kept (Term-F.Free m) s n child by at keeps v c means = absurd (none-some child at)
   child_kept (Term-F.Bound m) s n child by at keeps v c means = absurd (none-some child at)
   child_kept (Term-F.Lit w) s n child by at keeps v c means = absurd (none-some child at)
   child_kept (Term-F.Con d k ts fields) s n child by at keeps v c (con {vs = vs} all is) =
-      let there = all_kept fields n child by at keeps vs c all in
-      (there.0, with_layer (Term-F.Con d k ts (slice_set fields n by)) (out-Term (Con d k ts (slice_set fields n by))) v there.0 (outs-Con d k ts (slice_set fields n by)) (con there.1 is))
+      let there = all_kept fields n child by at keeps vs c all in (
+        there.0,
+        with_layer (Term-F.Con d k ts (slice_set fields n by)) (out-Term (Con d k ts (slice_set fields n by))) v there.0
+            (outs-Con d k ts (slice_set fields n by)) (con there.1 is),
+      )
   child_kept (Term-F.Call f fs args) s n child by at keeps v c (call {vs = vs} {a = a} {b = b} all fun_means funs_mean gives total) =
-      let there = all_kept args n child by at keeps vs a all in
-      (there.0 + b, with_layer (Term-F.Call f fs (slice_set args n by)) (out-Term (Call f fs (slice_set args n by))) v (there.0 + b) (outs-Call f fs (slice_set args n by)) (call there.1 fun_means funs_mean gives refl))
+      let there = all_kept args n child by at keeps vs a all in (
+        there.0 + b,
+        with_layer (Term-F.Call f fs (slice_set args n by)) (out-Term (Call f fs (slice_set args n by))) v (there.0 + b)
+            (outs-Call f fs (slice_set args n by)) (call there.1 fun_means funs_mean gives refl),
+      )
   child_kept (Term-F.Match on d ts arms) s n child by at keeps v c (choose {u = u} {a = a} {b = b} on_means chooses arm_means total) =
-      let there = keeps u a (with_same on child u a (only_child on n child at) on_means) in
-      (there.0 + b, with_layer (Term-F.Match by d ts arms) (out-Term (Match by d ts arms)) v (there.0 + b) (outs-Match by d ts arms) (choose there.1 chooses arm_means refl))
+      let there = keeps u a (with_same on child u a (only_child on n child at) on_means) in (
+        there.0 + b,
+        with_layer (Term-F.Match by d ts arms) (out-Term (Match by d ts arms)) v (there.0 + b) (outs-Match by d ts arms)
+            (choose there.1 chooses arm_means refl),
+      )
 
   -- the other part keeps the value of the whole, along the path
-  pub path_kept : (s : Term) (path : List ℕ) (part becomes t : Term) → subterm s path ≡ Some part → replaced s path becomes ≡ Some t → Keeps part becomes → Keeps s t
+  pub path_kept : (s : Term) (path : List ℕ) (part becomes t : Term) → subterm s path ≡ Some part → replaced s path becomes ≡ Some t → Keeps part becomes →
+      Keeps s t
   path_kept s [] part becomes t at whole keeps v c means =
       let there = keeps v c (with_same s part v c (same_Some s part at) means) in
       (there.0, with_same becomes t v there.0 (same_Some becomes t whole) there.1)
@@ -80,5 +97,9 @@ module _ (P : Program) (types : List Ty) (funs : List Fun) (rho bound : List Val
       (there.0, with_same (with_child s n g.new) t v there.0 g.whole there.1)
 
 -- a part replaced by one of the same value keeps the value of the whole
-pub replaced_keeps : (P : Program) (types : List Ty) (funs : List Fun) (rho bound : List Value) (s : Term) (path : List ℕ) (part becomes t : Term) → subterm s path ≡ Some part → replaced s path becomes ≡ Some t → ((v : Value) (c : ℕ) → MeansOf P types funs rho bound (out-Term part) v c → (e : ℕ) × MeansOf P types funs rho bound (out-Term becomes) v e) → (v : Value) (c : ℕ) → MeansOf P types funs rho bound (out-Term s) v c → (e : ℕ) × MeansOf P types funs rho bound (out-Term t) v e
-replaced_keeps P types funs rho bound s path part becomes t at whole keeps v c means = path_kept P types funs rho bound s path part becomes t at whole keeps v c means
+pub replaced_keeps : (P : Program) (types : List Ty) (funs : List Fun) (rho bound : List Value) (s : Term) (path : List ℕ) (part becomes t : Term) →
+    subterm s path ≡ Some part → replaced s path becomes ≡ Some t →
+    ((v : Value) (c : ℕ) → MeansOf P types funs rho bound (out-Term part) v c → (e : ℕ) × MeansOf P types funs rho bound (out-Term becomes) v e) →
+    (v : Value) (c : ℕ) → MeansOf P types funs rho bound (out-Term s) v c → (e : ℕ) × MeansOf P types funs rho bound (out-Term t) v e
+replaced_keeps P types funs rho bound s path part becomes t at whole keeps v c means =
+    path_kept P types funs rho bound s path part becomes t at whole keeps v c means

@@ -1,7 +1,7 @@
 -- A step keeps the value of a term: each turn keeps the value of the part, and so of the whole.
-use Rattle.std.proofs.Common.{◌≡◌, ℕ, zero, suc, List, [], ◌∷◌, ◌++◌, Bool, true, false, nat_le, ◌==◌, Option, Some, None, reverse, length, slice_get, option_map}
+use Rattle.std.proofs.Common.{◌≡◌, ℕ, zero, suc, List, [], ◌∷◌, ◌++◌, Bool, true, false, nat_le, ◌==◌, Option, Some, None, reverse, length, slice_get}
+use Rattle.std.proofs.Common.{option_map}
 use Rattle.std.proofs.Common.{option_and_then, refl, sym, ap, ◌∙◌, subst}
-use Rattle.std.specs.List.{All}
 use Rattle.std.proofs.lemmas.Option.{none-some, same_Some}
 use Rattle.px_terms.specs.declared.types.Ty.{Ty}
 use Rattle.px_terms.specs.declared.types.Ty.TheVariants as type
@@ -27,13 +27,13 @@ use Rattle.px_terms.specs.Types.{ty_instance, tys_instance}
 use Rattle.px_terms.specs.TreeEquations.{ty_instance-Con}
 use Rattle.px_terms.specs.Terms.{children_of, children, subterm, term_instance}
 use Rattle.px_terms.specs.Programs.{body_of}
-use Rattle.px_terms.specs.Steps.{with_fields, truth_term, Turns, unfolds, selects, compares_order, compares_equality, rewrites, rewrites_back, Step}
+use Rattle.px_terms.specs.Steps.{with_fields, truth_term, Turns, unfolds, selects, compares_order, compares_equality, rewrites, rewrites_back}
 use Rattle.px_terms.specs.Values.{IsIn}
 use Rattle.px_terms.specs.Meaning.{truth, FunMeans, chosen, bind, MeansOf, MeanAll, Means, Gives, con, none, at_most, equal}
 use Rattle.px_terms.specs.Typing.{Place, anywhere, in_body, IsType, AreTypes, IsFunction, HasTypeLayer, HaveTypes, HaveTypesInArms, HasType}
 use Rattle.px_terms.specs.Typing as typing
 use Rattle.px_terms.specs.TypedPrograms.{IsTypedDef, own_context}
-use Rattle.px_terms.specs.TypedSequents.{IsTypedContext, IsTypedEquation}
+use Rattle.px_terms.specs.TypedSequents.{IsTypedContext}
 use Rattle.px_terms.specs.Holding.{IsTrueAt, AreTrueAt}
 use Rattle.px_terms.specs.Extending.{IsWellFounded, FitTypes, FitValues, FunctionsFit}
 use Rattle.px_terms.specs.Extending as fitting
@@ -182,6 +182,9 @@ true_at Q types funs rho [] n e are at = absurd (none-some e at)
 true_at Q types funs rho (f ∷ facts) zero e are at = subst (IsTrueAt Q types funs rho) (same_Some f e at) are.0
 true_at Q types funs rho (f ∷ facts) (suc n) e are at = true_at Q types funs rho facts n e are.1 at
 
+pair_of : (all others rest : List Value) (v w : Value) → all ≡ v ∷ others → others ≡ w ∷ rest → rest ≡ [] → all ≡ v ∷ w ∷ []
+pair_of all others rest v w one two empty = one ∙ ap (λ (vs : List Value). v ∷ vs) (two ∙ ap (λ (vs : List Value). w ∷ vs) empty)
+
 slice_at : (ts : List Term) (i j : ℕ) (t : Term) → i ≡ j → slice_get ts i ≡ Some t → slice_get ts j ≡ Some t
 slice_at ts i j t same at = ap (slice_get ts) (sym same) ∙ at
 
@@ -261,7 +264,8 @@ module _ (Q : Program) (founded : IsWellFounded Q) (context : Context) (is : IsT
       out-Term part ≡ Term-F.Match on d ts arms → out-Term on ≡ Term-F.Con e k us fields → slice_get arms k ≡ Some arm → (v : Value) (c : ℕ) →
       Means Q types funs rho part v c → HasMeaning Q types funs rho [] (with_fields Q fields arm) v
   selected part on arm U d e k ts us arms fields has match_is on_is arm_is v c means =
-      let typed : OfTypedMatch Q context [] on d ts arms U = typed_by Q context (subst (λ (y : Term-F Term). HasTypeLayer Q anywhere context [] y U) match_is has) in
+      let typed : OfTypedMatch Q context [] on d ts arms U = typed_by Q context
+      (subst (λ (y : Term-F Term). HasTypeLayer Q anywhere context [] y U) match_is has) in
       let it : OfMatch Q types funs rho [] on arms v c =
       rests_on Q types funs rho [] (Term-F.Match on d ts arms) v c (subst (λ (y : Term-F Term). MeansOf Q types funs rho [] y v c) match_is means) in
       let of_con : OfCon Q types funs rho [] e k fields it.u it.a =
@@ -312,7 +316,7 @@ module _ (Q : Program) (founded : IsWellFounded Q) (context : Context) (is : IsT
       let second : OfMore Q types funs rho [] b [] first.vs first.b = all_rest_on Q types funs rho [] (b ∷ []) first.vs first.b first.mean in
       let third = all_rest_on Q types funs rho [] [] second.vs second.b second.mean in
       let are : on.vs ≡ first.v ∷ second.v ∷ [] =
-      first.is ∙ ap (λ (vs : List Value). first.v ∷ vs) (second.is ∙ ap (λ (vs : List Value). second.v ∷ vs) third.0) in
+      pair_of on.vs first.vs second.vs first.v second.v first.is second.is third.0 in
       record {
         left = first.v;
         right = second.v;
@@ -385,5 +389,6 @@ steps_keep_values Q founded context is facts typed_facts s t T path kind has ste
     let part : IsTypedTerm Q context step.part = part_typed Q context s path step.part (record { T = T; has = has }) step.at in
     let kept =
     replaced_keeps Q types funs rho [] s path step.part step.becomes t step.at step.whole
-    (turns_keep Q founded context is types funs rho assigned facts are kind step.part step.becomes part.T step.turns part.has) one.value one.count one.given in
+    (turns_keep Q founded context is types funs rho assigned facts are kind step.part step.becomes part.T step.turns part.has) one.value one.count one.given
+    in
     (one.value, one.count, kept.0, one.given, kept.1)

@@ -1,10 +1,11 @@
 -- The meaning of an instance is the meaning under the types, functions and values that are put in.
-use Rattle.std.proofs.Common.{◌≡◌, ℕ, zero, suc, ◌+◌, List, [], ◌∷◌, map, length, Option, Some, None, slice_get, option_map, unwrap_or, refl, sym, ap, ◌∙◌, subst}
+use Rattle.std.proofs.Common.{◌≡◌, ℕ, zero, suc, ◌+◌, List, [], ◌∷◌, map, length, Option, Some, None, slice_get, option_map, unwrap_or, refl, sym, ap, ◌∙◌}
+use Rattle.std.proofs.Common.{subst}
 use Rattle.std.proofs.lemmas.Option.{none-some, same_Some}
 use Rattle.px_terms.specs.declared.types.Ty.{Ty}
 use Rattle.px_terms.specs.declared.types.FnType.{FnType}
 use Rattle.px_terms.specs.declared.types.Fun.{Fun}
-use Rattle.px_terms.specs.Head.TheVariants.{Def, Wle, Weq, FnVar}
+use Rattle.px_terms.specs.Head.TheVariants.{Def, FnVar}
 use Rattle.px_terms.specs.declared.term.Term.{Term, out-Term}
 use Rattle.px_terms.specs.declared.term.Term.TheViews.{roll-out-Term}
 use Rattle.px_terms.specs.declared.term.Term.TheVariants.{Free, Bound, Lit, Con, Call, Match, outs-Bound, outs-Lit, outs-Con, outs-Call, outs-Match}
@@ -18,7 +19,7 @@ use Rattle.px_terms.specs.declared.program.Program.{Program}
 use Rattle.px_terms.specs.declared.sequent.Context.{Context}
 use Rattle.px_terms.specs.Types.{tys_instance, fun_instance, fun_with_types}
 use Rattle.px_terms.specs.Terms.{instance_step, term_instance}
-use Rattle.px_terms.specs.Meaning.{FunMeans, FunsMean, MeansOf, MeanAll, free, bound, lit, con, choose, call, none, more, chosen, bind}
+use Rattle.px_terms.specs.Meaning.{FunMeans, FunsMean, MeansOf, MeanAll, bound, lit, con, choose, call, none, more, chosen, bind}
 use Rattle.px_terms.specs.Typing.{Place, AreTypes, IsFunction, AreArguments, HasTypeLayer, HaveTypes, HaveTypesInArms}
 use Rattle.px_terms.specs.Typing as typing
 use Rattle.px_totality.proofs.Instances.{instances_twice}
@@ -132,7 +133,8 @@ module _ (Q : Program) (place : Place) (context : Context) (types : List Ty) (fu
         let there : HaveMeanings Q types funs rho inside (map (term_instance sigma) args) on.vs = all_kept have inside on.vs on.a on.all in
         let g : Fun = fun_instance sigma.types sigma.funs f in
         let hs : List Fun = map (fun_instance sigma.types sigma.funs) fs in
-        layer_means Q types funs rho inside (Call g hs (map (term_instance sigma) args)) (Term-F.Call g hs (map (term_instance sigma) args)) v (there.0 + on.b)
+        layer_means Q types funs rho inside (Call g hs (map (term_instance sigma) args)) (Term-F.Call g hs (map (term_instance sigma) args)) v
+        (there.0 + on.b)
         (outs-Call g hs (map (term_instance sigma) args))
         (call there.1 (fun_kept function on.g on.fun_means) (funs_kept passed on.gs on.funs_mean) on.gives refl)
     kept (typing.choose {on = on} {d = d} {types = ts} {arms = arms} scrutinee is found arms_typed) inside v c means =
@@ -155,11 +157,10 @@ module _ (Q : Program) (place : Place) (context : Context) (types : List Ty) (fu
     all_kept (typing.more {t = t} {ts = ts} has have) inside ws c mean =
         let on : OfMore Q inner gs vs inside t ts ws c = all_rest_on Q inner gs vs inside (t ∷ ts) ws c mean in
         let first : HasMeaning Q types funs rho inside (term_instance sigma t) on.v = moved inside t on.v (kept has inside on.v on.a on.means) in
-        let others : HaveMeanings Q types funs rho inside (map (term_instance sigma) ts) on.vs = all_kept have inside on.vs on.b on.mean in
-        (
+        let others : HaveMeanings Q types funs rho inside (map (term_instance sigma) ts) on.vs = all_kept have inside on.vs on.b on.mean in (
           first.0 + others.0,
           subst (λ (ws : List Value). MeanAll Q types funs rho inside (map (term_instance sigma) (t ∷ ts)) ws (first.0 + others.0)) (sym on.is)
-          (more first.1 others.1 refl),
+              (more first.1 others.1 refl),
         )
 
     arm_kept : {around ts : List Ty} {cs : List ConDef} {arms : List Term} {T : Ty} → HaveTypesInArms Q place context around ts cs arms T → (n : ℕ)

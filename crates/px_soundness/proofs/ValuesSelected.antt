@@ -1,21 +1,21 @@
 -- An arm with the fields of its constructor put in for its pattern variables has the value that it has where the fields' values are bound.
-use Rattle.std.proofs.Common.{◌≡◌, ℕ, zero, suc, ◌+◌, List, [], ◌∷◌, ◌++◌, map, reverse, length, Option, Some, slice_get, option_map, unwrap_or, refl, sym, ap}
+use Rattle.std.proofs.Common.{◌≡◌, ℕ, zero, suc, ◌+◌, List, [], ◌∷◌, ◌++◌, map, reverse, length, Option, Some, slice_get, option_map, unwrap_or, refl, sym}
+use Rattle.std.proofs.Common.{ap}
 use Rattle.std.proofs.Common.{◌∙◌, ◌<◌, ◌^◌, subst, append_assoc, arith}
-use Rattle.std.specs.List.{All}
 use Rattle.std.proofs.lemmas.Option.{none-some, same_Some, slice_get-map}
 use Rattle.std.proofs.lemmas.List.{append-nil, length-append, length-map, length-reverse, map-append, reverse-append}
-use Rattle.px_terms.specs.declared.types.Ty.{Ty, out-Ty}
+use Rattle.px_terms.specs.declared.types.Ty.{Ty}
 use Rattle.px_terms.specs.declared.types.Ty.TheVariants as type
 use Rattle.px_terms.specs.declared.types.Ty.TheOpen.{Ty-F}
 use Rattle.px_terms.specs.declared.types.FnType.{FnType}
 use Rattle.px_terms.specs.declared.types.Fun.{Fun}
 use Rattle.px_terms.specs.declared.term.Term.{Term, out-Term}
-use Rattle.px_terms.specs.declared.term.Term.TheVariants.{Free, Bound, Lit, Con, Call, Match, outs-Free, outs-Bound, outs-Lit, outs-Con, outs-Call, outs-Match}
+use Rattle.px_terms.specs.declared.term.Term.TheVariants.{Free, Bound, Lit, Con, Call, Match, outs-Free, outs-Bound, outs-Lit, outs-Con, outs-Call}
+use Rattle.px_terms.specs.declared.term.Term.TheVariants.{outs-Match}
 use Rattle.px_terms.specs.declared.term.Term.TheOpen.{Term-F}
 use Rattle.px_terms.specs.declared.term.Term.TheFolds.{fold-Term, map-Term, fold_out-Term}
 use Rattle.px_terms.specs.declared.term.Value.{Value, out-Value}
 use Rattle.px_terms.specs.declared.term.Value.TheVariants as value
-use Rattle.px_terms.specs.declared.term.Value.TheOpen.{Value-F}
 use Rattle.px_terms.specs.declared.program.ConDef.{ConDef}
 use Rattle.px_terms.specs.declared.program.DataDef.{DataDef}
 use Rattle.px_terms.specs.declared.program.Program.{Program}
@@ -29,7 +29,7 @@ use Rattle.px_terms.specs.Values as values
 use Rattle.px_terms.specs.Meaning.{chosen, bind, MeansOf, MeanAll, free, bound, lit, con, choose, call, none, more}
 use Rattle.px_terms.specs.Typing.{Place, IsType, AreTypes, HasTypeLayer, HaveTypes, HaveTypesInArms}
 use Rattle.px_terms.specs.Typing as typing
-use Rattle.px_terms.specs.TypedPrograms.{IsTyped, IsTypedData, IsTypedCon}
+use Rattle.px_terms.specs.TypedPrograms.{IsTypedData, IsTypedCon}
 use Rattle.px_terms.specs.Descent.{Standing, elsewhere, field_count}
 use Rattle.px_terms.specs.Extending.{IsWellFounded}
 use Rattle.px_totality.specs.Laws.{IsContext}
@@ -62,7 +62,8 @@ pub are_in_reversed : (Q : Program) {types : List Ty} {vs : List Value} → AreI
 are_in_reversed Q values.none = values.none
 are_in_reversed Q (values.more {T = T} {types = types} {v = v} {values = vs} first others) =
     subst (λ (types : List Ty). AreIn Q types (reverse (v ∷ vs))) (sym (reverse-append (T ∷ []) types))
-    (subst (AreIn Q (reverse types ++ T ∷ [])) (sym (reverse-append (v ∷ []) vs)) (are_in_append Q (are_in_reversed Q others) (values.more first values.none)))
+    (subst (AreIn Q (reverse types ++ T ∷ [])) (sym (reverse-append (v ∷ []) vs))
+    (are_in_append Q (are_in_reversed Q others) (values.more first values.none)))
 
 pub map_reversed : {A B : Type 0} (f : A → B) (xs : List A) → map f (reverse xs) ≡ reverse (map f xs)
 map_reversed f [] = refl
@@ -324,7 +325,8 @@ module _ (Q : Program) (founded : IsWellFounded Q) (place : Place) (context : Co
   match_both on d types arms U T mids on_both b arm =
       let level : ℕ = length mids in
       let new : List Term = arms_with Q d 0 (map (put_in Q fields) arms) level in
-      let at : slice_get new b.k ≡ Some (put_in Q fields arm.body (field_count Q d (0 + b.k) + level)) = arm_with Q fields d 0 b.k arms arm.body level arm.at in
+      let at : slice_get new b.k ≡ Some (put_in Q fields arm.body (field_count Q d (0 + b.k) + level)) =
+      arm_with Q fields d 0 b.k arms arm.body level arm.at in
       let scrutinee : HasMeaning Q ts gs rho mids (put_in Q fields on level) on_both.v =
       same_term Q ts gs rho mids (put_of Q fields (out-Term on) level) (put_in Q fields on level) on_both.v (put_is Q fields on level) on_both.put in
       record {
@@ -351,7 +353,8 @@ module _ (Q : Program) (founded : IsWellFounded Q) (place : Place) (context : Co
         v = both.v;
         count = both.count;
         means =
-            subst (λ (inner : List Value). MeansOf Q ts gs rho inner (out-Term body) both.v both.count) (append_assoc (reverse ws) mids (reverse us)) both.means;
+            subst (λ (inner : List Value). MeansOf Q ts gs rho inner (out-Term body) both.v both.count)
+            (append_assoc (reverse ws) mids (reverse us)) both.means;
         put =
             same_term Q ts gs rho (bind ws mids) (put_of Q fields (out-Term body) (length (bind ws mids)))
             (put_in Q fields body (field_count Q d (j + 0) + length mids)) both.v here both.put;
