@@ -8,7 +8,6 @@ pub fn steps_keep_types()
 
 /// A step keeps the value of a term, at all types, functions and values that make the facts true.
 pub fn steps_keep_values()
-    requires { StepsKeepValues }
     ensures { StepsKeepValues }
 {}
 
