@@ -13,7 +13,6 @@ pub mod TypesOfInstances
 pub mod TypesOfLists
 pub mod TypesOfParts
 pub mod TypesOfSelected
-pub mod ValuesForward
 pub mod ValuesKeeping
 pub mod ValuesOfSteps
 pub mod ValuesPutIn

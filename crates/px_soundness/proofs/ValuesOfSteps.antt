@@ -47,7 +47,7 @@ use Rattle.px_totality.proofs.Valued.{IsBuilt, built, IsVariable, FitVariables}
 use Rattle.px_totality.proofs.Unique.{unique, unique_gift, rests_on, all_rest_on, gift_rests_on, OfCon, OfMatch, OfCall, OfMore, OfDefined}
 use Rattle.px_soundness.specs.Validity.{IsAssignment}
 use Rattle.px_soundness.specs.Argument.{StepsKeepValues}
-use Rattle.px_soundness.proofs.ValuesForward.{HasMeaning, layer_means, same_term}
+use Rattle.px_soundness.proofs.Forward.{HasMeaning, layer_means, same_term}
 use Rattle.px_soundness.proofs.ValuesKeeping.{replaced_keeps}
 use Rattle.px_soundness.proofs.ValuesPutIn.{instance_keeps}
 use Rattle.px_soundness.proofs.ValuesSelected.{chosen_of, arm_keeps}

@@ -24,7 +24,7 @@ use Rattle.px_terms.specs.Typing.{Place, AreTypes, IsFunction, AreArguments, Has
 use Rattle.px_terms.specs.Typing as typing
 use Rattle.px_totality.proofs.Instances.{instances_twice}
 use Rattle.px_totality.proofs.Unique.{rests_on, all_rest_on, OfCon, OfMatch, OfCall, OfMore}
-use Rattle.px_soundness.proofs.ValuesForward.{HasMeaning, HaveMeanings, layer_means, same_term, under_any, chosen_map}
+use Rattle.px_soundness.proofs.Forward.{HasMeaning, HaveMeanings, layer_means, same_term, under_any, chosen_map}
 
 -- the function at the place of what it stands for
 function_at_value : (types : List Ty) (funs fs gs : List Fun) (n : ℕ) (g : Fun) → FunsMean types funs fs gs → slice_get gs n ≡ Some g →

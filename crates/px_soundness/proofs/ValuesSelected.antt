@@ -42,7 +42,7 @@ use Rattle.px_totality.proofs.Calls.{CallsGive, AllMeant, Called, arguments_mean
 use Rattle.px_totality.proofs.EachIsTotal.{each_gives, passed_total}
 use Rattle.px_totality.proofs.Unique.{unique}
 use Rattle.px_totality.proofs.Valued.{IsBuilt, built, FitVariables, are_in_append, as_many}
-use Rattle.px_soundness.proofs.ValuesForward.{HasMeaning, HaveMeanings, layer_means, same_term, more_bound_all}
+use Rattle.px_soundness.proofs.Forward.{HasMeaning, HaveMeanings, layer_means, same_term, more_bound_all}
 use Rattle.px_soundness.proofs.ValuesPutIn.{value_at}
 
 -- The value at this place is in its type.
