@@ -1,8 +1,10 @@
+pub mod CasesAreSound
 pub mod Forward
 pub mod Found
 pub mod ObligationsHold
 pub mod OneClause
 pub mod PlainRowsAreSound
+pub mod RowsAreSound
 pub mod Sides
 pub mod Stacks
 pub mod StepsKeepTypes
