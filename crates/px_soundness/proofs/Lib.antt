@@ -1,1 +1,4 @@
+pub mod ClausesTyped
+pub mod FirstTyped
 pub mod RowsChanges
+pub mod RowsInstances

@@ -15,7 +15,6 @@ pub fn steps_keep_values()
 
 /// The first sequent of an obligation is typed.
 pub fn first_sequents_are_typed()
-    requires { FirstSequentsAreTyped }
     ensures { FirstSequentsAreTyped }
 {}
 
@@ -27,7 +26,6 @@ pub fn rows_keep_typing()
 
 /// What is open to an obligation is typed.
 pub fn open_clauses_are_typed()
-    requires { OpenClausesAreTyped }
     ensures { OpenClausesAreTyped }
 {}
 
