@@ -2,3 +2,4 @@ pub mod ClausesTyped
 pub mod FirstTyped
 pub mod RowsChanges
 pub mod RowsInstances
+pub mod RowsScopes
