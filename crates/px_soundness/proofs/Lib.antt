@@ -3,3 +3,4 @@ pub mod FirstTyped
 pub mod RowsChanges
 pub mod RowsInstances
 pub mod RowsScopes
+pub mod RowsTyped

@@ -223,7 +223,7 @@ module _ (Q : Program) (n : ℕ) (context : Context) (clause : Clause) (sigma : 
       (record { function = it.is.function; known = λ p has. known_anywhere Q (behind n) context it.g.head (it.is.properties p has) })
 
   -- into a clause with type and function variables of its own
-  puts_own : PutsIn Q (clause_alone clause) context sigma.types sigma.funs (term_instance sigma)
+  pub puts_own : PutsIn Q (clause_alone clause) context sigma.types sigma.funs (term_instance sigma)
   puts_own = record {
     change = instance_changed sigma;
     types = λ types are. instances_are_types Q context.tparams sigma.types fits.types (subst (λ (k : ℕ). AreTypes Q k types) (sym fits.count) are);
@@ -247,7 +247,7 @@ module _ (Q : Program) (n : ℕ) (context : Context) (clause : Clause) (sigma : 
     funs_are : sigma.funs ≡ []
     funs_are = none_open fits.funs (ap (map (fn_type_instance sigma.types)) no_funs)
 
-    puts_nothing : (old : Context) → context.tparams ≡ old.tparams → context.funs ≡ old.funs → old.vars ≡ live clause.vars →
+    pub puts_nothing : (old : Context) → context.tparams ≡ old.tparams → context.funs ≡ old.funs → old.vars ≡ live clause.vars →
         PutsIn Q old context [] [] (term_instance sigma)
     puts_nothing old tparams funs vars =
         puts_no_types Q old context (term_instance sigma) (subst₂ (λ ts gs. IsChange ts gs (term_instance sigma)) types_are funs_are (instance_changed sigma))

@@ -20,7 +20,7 @@ pub fn first_sequents_are_typed()
 
 /// What a row leaves of a typed sequent is typed.
 pub fn rows_keep_typing()
-    requires { RowsKeepTyping }
+    requires { StepsKeepTypes }
     ensures { RowsKeepTyping }
 {}
 
