@@ -1,10 +1,16 @@
 pub mod CasesAreSound
+pub mod ClausesTyped
+pub mod FirstTyped
 pub mod Forward
 pub mod Found
 pub mod ObligationsHold
 pub mod OneClause
 pub mod PlainRowsAreSound
 pub mod RowsAreSound
+pub mod RowsChanges
+pub mod RowsInstances
+pub mod RowsScopes
+pub mod RowsTyped
 pub mod Sides
 pub mod Stacks
 pub mod StepsKeepTypes
