@@ -18,7 +18,6 @@ pub fn first_sequents_are_typed()
 
 /// What a row leaves of a typed sequent is typed.
 pub fn rows_keep_typing()
-    requires { StepsKeepTypes }
     ensures { RowsKeepTyping }
 {}
 
