@@ -1,5 +1,5 @@
 -- What is open to an obligation is typed: the clauses of properties, of lemmas, and the obligation's own.
-use Rattle.std.proofs.Common.{◌≡◌, ℕ, zero, suc, ◌+◌, ◌<◌, List, [], ◌∷◌, ◌++◌, map, length, replicate, Option, Some, None, slice_get, unwrap_or}
+use Rattle.std.proofs.Common.{◌≡◌, ℕ, zero, suc, ◌+◌, ◌<◌, List, [], ◌∷◌, ◌++◌, map, length, replicate, Option, Some, slice_get, unwrap_or}
 use Rattle.std.proofs.Common.{refl, sym, ap, ◌∙◌, subst, subst₂, arith}
 use Rattle.std.specs.List.{All}
 use Rattle.std.specs.Option.{IsSomeAnd}
@@ -9,13 +9,13 @@ use Rattle.px_terms.specs.Prop.TheVariants.{Comm, Assoc, Idem, Sel, Refl, Irrefl
 use Rattle.px_terms.specs.PropSets.{HasProp}
 use Rattle.px_terms.specs.Head.{Head}
 use Rattle.px_terms.specs.Head.TheVariants.{Def, Wle, Weq, FnVar}
-use Rattle.px_terms.specs.declared.types.Ty.{Ty, out-Ty, roll-Ty}
+use Rattle.px_terms.specs.declared.types.Ty.{Ty, roll-Ty}
 use Rattle.px_terms.specs.declared.types.Ty.TheVariants as type
 use Rattle.px_terms.specs.declared.types.Ty.TheViews.{roll-out-Ty}
 use Rattle.px_terms.specs.declared.types.Ty.TheOpen.{Ty-F}
 use Rattle.px_terms.specs.declared.types.FnType.{FnType}
 use Rattle.px_terms.specs.declared.types.Fun.{Fun}
-use Rattle.px_terms.specs.declared.term.Term.{Term, out-Term}
+use Rattle.px_terms.specs.declared.term.Term.{Term}
 use Rattle.px_terms.specs.declared.term.Term.TheVariants as term
 use Rattle.px_terms.specs.declared.term.Term.TheOpen.{Term-F}
 use Rattle.px_terms.specs.declared.clause.Equation.{Equation}
@@ -38,18 +38,18 @@ use Rattle.px_terms.specs.Clauses.{Subject, IsSubject, HasResult, IsClauseOf, fu
 use Rattle.px_terms.specs.Clauses as clauses
 use Rattle.px_terms.specs.Obligations.{IsObligation, IsDeclaredClause, lemma_clause}
 use Rattle.px_terms.specs.Obligations as obligations
-use Rattle.px_terms.specs.Extending.{IsWellFounded}
 use Rattle.px_terms.specs.Noting.{IsOpen}
 use Rattle.px_terms.specs.Noting as noting
 use Rattle.px_terms.specs.declared.row.Ref.{Ref}
-use Rattle.px_totality.proofs.Instances.{nothing_is_some, one_item, written_types, type_at, instances_are_types}
+use Rattle.px_totality.proofs.Instances.{one_item, written_types, type_at, instances_are_types}
 use Rattle.px_totality.proofs.TypesOfTerms.{all_at, constructor_of, bool_is_type, are_types_append}
 use Rattle.px_soundness.specs.Argument.{OpenClausesAreTyped, IsTypedClause, property_context, clause_context}
 use Rattle.px_soundness.proofs.RowsChanges.{may_call_anywhere, all_met, in_front}
-use Rattle.px_soundness.proofs.RowsInstances.{live_at, live_there, free_has, typed_anywhere, clause_alone}
+use Rattle.px_soundness.proofs.RowsInstances.{live_at, live_there, behind_front, free_has, frees_have, typed_anywhere, clause_alone}
 
 -- the own type variables stay, where they are put in for themselves
-own_stays_at : (start count n : ℕ) → unwrap_or (slice_get (map (λ (i : ℕ). type.Var i) (numbers_from start count)) n) (type.Var (start + n)) ≡ type.Var (start + n)
+own_stays_at : (start count n : ℕ) →
+    unwrap_or (slice_get (map (λ (i : ℕ). type.Var i) (numbers_from start count)) n) (type.Var (start + n)) ≡ type.Var (start + n)
 own_stays_at start zero n = refl
 own_stays_at start (suc count) zero = let none : start ≡ start + 0 = omega arith in ap type.Var none
 own_stays_at start (suc count) (suc n) =
@@ -114,11 +114,6 @@ back_are_types Q k (x ∷ xs) ys (typing.more is are) = back_are_types Q k xs ys
 replicated_are_types : (Q : Program) (k : ℕ) (count : ℕ) (T : Ty) → IsType Q k T → AreTypes Q k (replicate count T)
 replicated_are_types Q k zero T is = typing.none
 replicated_are_types Q k (suc count) T is = typing.more is (replicated_are_types Q k count T is)
-
--- behind the front stand the others
-behind_front : (xs ys : List Ty) (n : ℕ) → slice_get (xs ++ ys) (length xs + n) ≡ slice_get ys n
-behind_front [] ys n = let e : 0 + n ≡ n = omega arith in ap (slice_get ys) e
-behind_front (x ∷ xs) ys n = let e : suc (length xs) + n ≡ suc (length xs + n) = omega arith in ap (slice_get (x ∷ xs ++ ys)) e ∙ behind_front xs ys n
 
 replicated_at : (count n : ℕ) (T : Ty) → n < count → slice_get (replicate count T) n ≡ Some T
 replicated_at zero n T below = let wrong : ⊥ = omega (arith, below) in absurd wrong
@@ -201,25 +196,12 @@ module _ (Q : Program) (typed : IsTyped Q) (k : ℕ) (funs : List FnType) (are_t
   Z : (count : ℕ) → 2 < count → H count (z_of s) s.last
   Z count below = named count 2 below
 
-  -- the variables from a number on have their types
-  frees_have : (context : Context) (start : ℕ) (types : List Ty) (terms : List Term) (others : List Ty) →
-      ((i : ℕ) (T : Ty) → slice_get types i ≡ Some T → slice_get context.vars (start + i) ≡ Some (Some T)) →
-      HaveTypes Q anywhere context [] terms others →
-      HaveTypes Q anywhere context [] (map (λ (i : ℕ). term.Free i) (numbers_from start (length types)) ++ terms) (types ++ others)
-  frees_have context start [] terms others stand have = have
-  frees_have context start (T ∷ types) terms others stand have =
-      let none : start + 0 ≡ start = omega arith in
-      let first : HasType Q anywhere context (term.Free start) T =
-      free_has Q context start T (ap (slice_get context.vars) (sym none) ∙ stand 0 T refl) in
-      typing.more first (frees_have context (start + 1) types terms others
-      (λ i S at. let one : (start + 1) + i ≡ start + suc i = omega arith in ap (slice_get context.vars) one ∙ stand (suc i) S at) have)
-
   -- the function on the leading variables and two terms
   A : (count : ℕ) {a b : Term} → H count a s.last → H count b s.last → H count (applied s a b) s.result
   A count {a} {b} first second =
       let args : List Term = map (λ (i : ℕ). term.Free i) (numbers_from 0 (length s.leading)) ++ a ∷ b ∷ [] in
       let have : HaveTypes Q anywhere (C count) [] args (s.leading ++ s.last ∷ s.last ∷ []) =
-      frees_have (C count) 0 s.leading (a ∷ b ∷ []) (s.last ∷ s.last ∷ [])
+      frees_have Q (C count) 0 s.leading (a ∷ b ∷ []) (s.last ∷ s.last ∷ [])
       (λ i T at. let none : 0 + i ≡ i = omega arith in ap (slice_get (live (variables count))) none
       ∙ live_there (variables count) i T (in_front s.leading (replicate count s.last) i T at))
       (typing.more first.has (typing.more second.has typing.none)) in

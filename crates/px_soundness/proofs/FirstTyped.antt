@@ -1,22 +1,14 @@
 -- The first sequent of an obligation is typed.
-use Rattle.std.proofs.Common.{◌≡◌, ℕ, ◌<◌, List, [], ◌∷◌, map, length, Option, Some, slice_get, get_or, refl, sym, ap, ◌∙◌, subst}
-use Rattle.std.specs.List.{All}
+use Rattle.std.proofs.Common.{◌≡◌, ℕ, ◌<◌, List, [], ◌∷◌, map, length, Some, get_or, refl, sym, ap}
 use Rattle.std.proofs.lemmas.List.{length-map}
 use Rattle.std.proofs.lemmas.List.Elements.{All-map, All-weaker}
 use Rattle.std.proofs.lemmas.Option.{slice_get-get_or}
 use Rattle.px_terms.specs.declared.types.Ty.{Ty}
 use Rattle.px_terms.specs.declared.types.Ty.TheVariants as type
 use Rattle.px_terms.specs.declared.term.Term.TheVariants as term
-use Rattle.px_terms.specs.declared.clause.Clause.{Clause}
-use Rattle.px_terms.specs.declared.program.Program.{Program}
 use Rattle.px_terms.specs.declared.sequent.Present.{Present}
-use Rattle.px_terms.specs.Typing.{live}
-use Rattle.px_terms.specs.Obligations.{IsObligation}
 use Rattle.px_terms.specs.TypedSequents.{IsTypedPresent}
-use Rattle.px_terms.specs.Derivations.{AreFrameVariables, begins_with}
-use Rattle.px_terms.specs.Extending.{IsWellFounded}
 use Rattle.px_soundness.specs.Argument.{FirstSequentsAreTyped, IsTypedClause}
-use Rattle.px_soundness.specs.Validity.{IsSequentOf}
 use Rattle.px_soundness.proofs.ClausesTyped.{own_typed}
 use Rattle.px_soundness.proofs.RowsInstances.{live_there, free_has, clause_alone}
 

@@ -1,7 +1,7 @@
 -- A term that is changed part by part keeps its type: where types, functions and terms are put in for variables, where a term is put in
 -- for one variable, and where there are more variables.
-use Rattle.std.proofs.Common.{◌≡◌, ℕ, zero, suc, ◌+◌, ◌<◌, ◌^◌, List, [], ◌∷◌, ◌++◌, map, reverse, length, Option, Some, None, slice_get, unwrap_or}
-use Rattle.std.proofs.Common.{refl, sym, ap, ◌∙◌, subst, subst₂, arith}
+use Rattle.std.proofs.Common.{◌≡◌, ℕ, zero, suc, List, [], ◌∷◌, ◌++◌, map, reverse, length, Option, Some, slice_get, unwrap_or}
+use Rattle.std.proofs.Common.{refl, sym, ap, ◌∙◌, subst, subst₂}
 use Rattle.std.specs.List.{All}
 use Rattle.std.specs.Option.{IsSomeAnd, option_map}
 use Rattle.std.proofs.lemmas.List.{length-map, map-append, reverse-append, append_assoc}
@@ -20,24 +20,21 @@ use Rattle.px_terms.specs.declared.term.Term.TheVariants as term
 use Rattle.px_terms.specs.declared.term.Term.TheViews.{roll-out-Term}
 use Rattle.px_terms.specs.declared.term.Term.TheOpen.{Term-F}
 use Rattle.px_terms.specs.declared.program.ConDef.{ConDef}
-use Rattle.px_terms.specs.declared.program.DataDef.{DataDef}
-use Rattle.px_terms.specs.declared.program.Def as definition
 use Rattle.px_terms.specs.declared.program.Program.{Program}
 use Rattle.px_terms.specs.declared.sequent.Context.{Context}
 use Rattle.px_terms.specs.Types.{ty_instance, tys_instance, fn_type_instance, fun_instance}
 use Rattle.px_terms.specs.TreeEquations.{ty_instance-Word, ty_instance-Con}
-use Rattle.px_terms.specs.Programs.{bool_type, constructor_at}
+use Rattle.px_terms.specs.Programs.{bool_type}
 use Rattle.px_terms.specs.Implied.{Closure}
 use Rattle.px_terms.specs.Implied as implied
 use Rattle.px_terms.specs.Typing.{Place, anywhere, IsType, AreTypes, IsFunction, IsMet, MayCall, MayPass, IsSaid, IsKnown}
 use Rattle.px_terms.specs.Typing.{IsArgument, AreArguments, HasTypeLayer, HaveTypes, HaveTypesInArms, HasType}
 use Rattle.px_terms.specs.Typing as typing
-use Rattle.px_terms.specs.TypedPrograms.{IsTyped, IsTypedData, IsTypedCon, IsWrittenFnType, HasSignature}
+use Rattle.px_terms.specs.TypedPrograms.{IsTyped, IsTypedCon, IsWrittenFnType, HasSignature}
 use Rattle.px_terms.specs.TypedSequents.{IsTypedContext}
 use Rattle.px_totality.specs.Laws.{IsContext}
 use Rattle.px_totality.proofs.Instances.{nothing_is_some, written_types, instances_twice, instance_twice}
 use Rattle.px_totality.proofs.TypesOfTerms.{all_at, StandsIn, stands_in, DataType, data_type, data_is_typed, type_of, are_types_append, are_types_reversed}
-use Rattle.px_totality.proofs.TypesOfTerms.{fields_are_types}
 use Rattle.px_totality.proofs.Instances.{instances_are_types}
 use Rattle.px_totality.proofs.ArgumentsFit.{closure_weaker}
 
@@ -194,7 +191,8 @@ module _ (Q : Program) (typed : IsTyped Q) (place : Place) (old new : Context) (
       subst (λ (params : List Ty). IsFunction Q new (record { head = Weq; types = [] }) [] params (ty_instance ts T)) (sym words_are)
       (typing.equal (bool_is T is))
   function_put (typing.of_variable {n = i} {params = params} {T = T} {F = F} found params_is result_is) =
-      subst₂ (IsFunction Q new (put_function gs i) []) (sym (ap (tys_instance ts) params_is)) (sym (ap (ty_instance ts) result_is)) (puts.funs i F found).function
+      subst₂ (IsFunction Q new (put_function gs i) []) (sym (ap (tys_instance ts) params_is)) (sym (ap (ty_instance ts) result_is))
+      (puts.funs i F found).function
 
   -- what is known of a function is known of it with types and functions put in
   known_put : {f : Fun} {takes : List FnType} {params : List Ty} {T : Ty} → IsFunction Q old f takes params T → (p : Prop) → IsKnown Q place old f.head p →
@@ -252,7 +250,8 @@ module _ (Q : Program) (typed : IsTyped Q) (place : Place) (old new : Context) (
         subst (λ (t : Term). HasTypeLayer Q anywhere new (tys_instance ts bound) (out-Term (op t)) (ty_instance ts T)) (sym (term.rolls-Free n))
         (widened (tys_instance ts bound) (puts.frees n T at))
     layer_put {bound} (typing.bound {n = n} {T = T} at met) around =
-        let there : slice_get (tys_instance ts bound) n ≡ Some (ty_instance ts T) = slice_get-map (ty_instance ts) bound n ∙ ap (option_map (ty_instance ts)) at in
+        let there : slice_get (tys_instance ts bound) n ≡ Some (ty_instance ts T) =
+        slice_get-map (ty_instance ts) bound n ∙ ap (option_map (ty_instance ts)) at in
         becomes (tys_instance ts bound) (Term-F.Bound n) (Term-F.Bound n) (term.Bound n) (term.Bound n) (ty_instance ts T) (term.rolls-Bound n)
         (puts.change.on_bound n) (term.outs-Bound n) (typing.bound there tt)
     layer_put {bound} (typing.lit {w = w} {T = T} small e) around =
@@ -302,7 +301,8 @@ module _ (Q : Program) (typed : IsTyped Q) (place : Place) (old new : Context) (
         let are_fields : AreTypes Q old.tparams (tys_instance types c.fields) = instances_are_types Q old.tparams types are fields in
         let inner : AreTypes Q old.tparams (reverse (tys_instance types c.fields) ++ bound) =
         are_types_append Q old.tparams (are_types_reversed Q old.tparams are_fields) around in
-        let same : tys_instance ts (reverse (tys_instance types c.fields) ++ bound) ≡ reverse (tys_instance (tys_instance ts types) c.fields) ++ tys_instance ts bound =
+        let same : tys_instance ts (reverse (tys_instance types c.fields) ++ bound)
+        ≡ reverse (tys_instance (tys_instance ts types) c.fields) ++ tys_instance ts bound =
         map-append (ty_instance ts) (reverse (tys_instance types c.fields)) bound
         ∙ ap (λ (front : List Ty). front ++ tys_instance ts bound) (map-reverse (ty_instance ts) (tys_instance types c.fields))
         ∙ ap (λ (front : List Ty). reverse front ++ tys_instance ts bound) (fields_twice types c m long con_typed) in

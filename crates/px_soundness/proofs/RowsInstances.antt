@@ -1,10 +1,9 @@
 -- What is put in keeps types: more variables, a term for one variable, and an instance of a clause.
-use Rattle.std.proofs.Common.{◌≡◌, ◌≢◌, ℕ, zero, suc, List, [], ◌∷◌, ◌++◌, map, length, Option, Some, None, slice_get, unwrap_or, Bool, true, false, ◌==◌}
-use Rattle.std.proofs.Common.{refl, sym, ap, ◌∙◌, subst, subst₂, eqb-true, eq-eqb, true≢false}
+use Rattle.std.proofs.Common.{◌≡◌, ◌≢◌, ℕ, zero, suc, ◌+◌, List, [], ◌∷◌, ◌++◌, map, length, Option, Some, slice_get, unwrap_or, Bool, true, false, ◌==◌}
+use Rattle.std.proofs.Common.{refl, sym, ap, ◌∙◌, subst, subst₂, eqb-true, eq-eqb, true≢false, arith}
 use Rattle.std.specs.Prelude.{if◌then◌else◌}
 use Rattle.std.specs.Option.{IsSomeAnd, option_map}
 use Rattle.std.proofs.lemmas.Option.{slice_get-map}
-use Rattle.px_terms.specs.Prop.{Prop}
 use Rattle.px_terms.specs.PropSets.{HasProp}
 use Rattle.px_terms.specs.Head.{Head}
 use Rattle.px_terms.specs.Head.TheVariants.{Def, Wle, Weq, FnVar}
@@ -19,7 +18,7 @@ use Rattle.px_terms.specs.declared.clause.Clause.{Clause}
 use Rattle.px_terms.specs.declared.clause.Sigma.{Sigma}
 use Rattle.px_terms.specs.declared.program.Program.{Program}
 use Rattle.px_terms.specs.declared.sequent.Context.{Context}
-use Rattle.px_terms.specs.Types.{ty_instance, tys_instance, fn_type_instance, fun_instance}
+use Rattle.px_terms.specs.Types.{numbers_from, ty_instance, tys_instance, fn_type_instance, fun_instance}
 use Rattle.px_terms.specs.Terms.{term_instance, term_put}
 use Rattle.px_terms.specs.TreeEquations.{term_instance-Free, term_instance-Bound, term_instance-Lit, term_instance-Con, term_instance-Call, term_instance-Match}
 use Rattle.px_terms.specs.TreeEquations.{term_put-Free, term_put-Bound, term_put-Lit, term_put-Con, term_put-Call, term_put-Match}
@@ -46,6 +45,23 @@ live_there types n T at = slice_get-map (λ (T : Ty). Some T) types n ∙ ap (op
 -- a variable of the context has its type
 pub free_has : (Q : Program) (context : Context) (n : ℕ) (T : Ty) → slice_get context.vars n ≡ Some (Some T) → HasType Q anywhere context (term.Free n) T
 free_has Q context n T at = subst (λ (y : Term-F Term). HasTypeLayer Q anywhere context [] y T) (sym (term.outs-Free n)) (typing.free at tt)
+
+-- behind the front stand the others
+pub behind_front : {A : Type 0} (xs ys : List A) (n : ℕ) → slice_get (xs ++ ys) (length xs + n) ≡ slice_get ys n
+behind_front [] ys n = let e : 0 + n ≡ n = omega arith in ap (slice_get ys) e
+behind_front (x ∷ xs) ys n = let e : suc (length xs) + n ≡ suc (length xs + n) = omega arith in ap (slice_get (x ∷ xs ++ ys)) e ∙ behind_front xs ys n
+
+-- the variables from a number on have their types, in front of terms that have theirs
+pub frees_have : (Q : Program) (context : Context) (start : ℕ) (types : List Ty) (terms : List Term) (others : List Ty) →
+    ((i : ℕ) (T : Ty) → slice_get types i ≡ Some T → slice_get context.vars (start + i) ≡ Some (Some T)) →
+    HaveTypes Q anywhere context [] terms others →
+    HaveTypes Q anywhere context [] (map (λ (i : ℕ). term.Free i) (numbers_from start (length types)) ++ terms) (types ++ others)
+frees_have Q context start [] terms others stand have = have
+frees_have Q context start (T ∷ types) terms others stand have =
+    let none : start + 0 ≡ start = omega arith in
+    let first : HasType Q anywhere context (term.Free start) T = free_has Q context start T (ap (slice_get context.vars) (sym none) ∙ stand 0 T refl) in
+    typing.more first (frees_have Q context (start + 1) types terms others
+    (λ i S at. let one : (start + 1) + i ≡ start + suc i = omega arith in ap (slice_get context.vars) one ∙ stand (suc i) S at) have)
 
 -- where nothing is put in, a type stays as it is
 pub type_stays : (T : Ty) → ty_instance [] T ≡ T

@@ -1,10 +1,10 @@
 -- What is in scope: an obligation has one list of type and function variables, and fresh variables have the types of a constructor's fields.
 use Rattle.std.proofs.Common.{◌≡◌, ◌⊎◌, inl, inr, ℕ, zero, suc, ◌+◌, List, [], ◌∷◌, ◌++◌, map, length, Option, Some, None, slice_get}
-use Rattle.std.proofs.Common.{refl, sym, ap, ◌∙◌, subst, subst₂, arith}
+use Rattle.std.proofs.Common.{refl, sym, ap, ◌∙◌, subst, subst₂}
 use Rattle.std.specs.List.{All}
 use Rattle.std.proofs.lemmas.List.Elements.{All-nil, All-cons}
 use Rattle.std.specs.Prelude.{slice_set}
-use Rattle.std.proofs.lemmas.List.{length-append, length-map}
+use Rattle.std.proofs.lemmas.List.{append-nil, length-map}
 use Rattle.px_terms.specs.Head.{Head}
 use Rattle.px_terms.specs.Head.TheVariants.{Def, Wle, Weq, FnVar}
 use Rattle.px_terms.specs.Prop.{Prop}
@@ -15,7 +15,6 @@ use Rattle.px_terms.specs.declared.types.FnType.{FnType}
 use Rattle.px_terms.specs.declared.term.Term.{Term, out-Term}
 use Rattle.px_terms.specs.declared.term.Term.TheVariants as term
 use Rattle.px_terms.specs.declared.term.Term.TheOpen.{Term-F}
-use Rattle.px_terms.specs.declared.clause.Equation.{Equation}
 use Rattle.px_terms.specs.declared.clause.Clause.{Clause}
 use Rattle.px_terms.specs.declared.program.ConDef.{ConDef}
 use Rattle.px_terms.specs.declared.program.Def as definition
@@ -34,13 +33,13 @@ use Rattle.px_terms.specs.Clauses as clauses
 use Rattle.px_terms.specs.Obligations.{IsObligation, IsDeclaredClause}
 use Rattle.px_terms.specs.Obligations as obligations
 use Rattle.px_terms.specs.Rows.{pairs_equal}
-use Rattle.px_totality.proofs.Instances.{nothing_is_some, one_item, type_at}
-use Rattle.px_soundness.proofs.RowsInstances.{live_at, live_there, free_has}
+use Rattle.px_totality.proofs.Instances.{one_item, type_at}
+use Rattle.px_soundness.proofs.RowsInstances.{live_at, live_there, behind_front, frees_have}
 
--- what of a clause is known of its declaration: its type and function variables
-record HasScope (clause : Clause) (k : ℕ) (funs : List FnType) : Type 0 where
-  tparams_are : clause.tparams ≡ k
-  funs_are : clause.funs ≡ funs
+-- The clause has so many type variables, and these function variables.
+pub record HasScope (clause : Clause) (k : ℕ) (Fs : List FnType) : Type 0 where
+  pub tparams : clause.tparams ≡ k
+  pub funs : clause.funs ≡ Fs
 
 -- The clause has the scope of a definition.
 record ScopeOfDefinition (Q : Program) (n : ℕ) (clause : Clause) : Type 0 where
@@ -65,7 +64,7 @@ scope_of_head : (Q : Program) {funs : List FnType} {h : Head} {p : Prop} {clause
 scope_of_head Q (clauses.of_definition {D = D} found s subject result is) = record {
   D = D;
   found = found;
-  is = record { tparams_are = ap (λ (c : Clause). c.tparams) is; funs_are = ap (λ (c : Clause). c.funs) is };
+  is = record { tparams = ap (λ (c : Clause). c.tparams) is; funs = ap (λ (c : Clause). c.funs) is };
 }
 scope_of_head Q (clauses.of_at_most s subject result is) = tt
 scope_of_head Q (clauses.of_equal s subject result is) = tt
@@ -81,55 +80,33 @@ scope_of Q (obligations.of_property is) = scope_of_head Q is
 scope_of Q (obligations.of_lemma {l = l} found is) = record {
   l = l;
   found = found;
-  is = record { tparams_are = ap (λ (c : Clause). c.tparams) is; funs_are = ap (λ (c : Clause). c.funs) is };
+  is = record { tparams = ap (λ (c : Clause). c.tparams) is; funs = ap (λ (c : Clause). c.funs) is };
 }
 
 one_scope : (Q : Program) (x : Declared) (a b : Clause) → ScopeOf Q x a → ScopeOf Q x b → HasScope a b.tparams b.funs
 one_scope Q (declared.Property n p) a b x y =
     let same : x.D ≡ y.D = one_item x.D y.D (sym x.found ∙ y.found) in record {
-      tparams_are = x.is.tparams_are ∙ ap (λ (D : definition.Def). D.tparams) same ∙ sym y.is.tparams_are;
-      funs_are = x.is.funs_are ∙ ap (λ (D : definition.Def). D.funs) same ∙ sym y.is.funs_are;
+      tparams = x.is.tparams ∙ ap (λ (D : definition.Def). D.tparams) same ∙ sym y.is.tparams;
+      funs = x.is.funs ∙ ap (λ (D : definition.Def). D.funs) same ∙ sym y.is.funs;
     }
 one_scope Q (declared.Lemma n) a b x y =
     let same : x.l ≡ y.l = one_item x.l y.l (sym x.found ∙ y.found) in record {
-      tparams_are = x.is.tparams_are ∙ ap (λ (l : proposition.Lemma). l.tparams) same ∙ sym y.is.tparams_are;
-      funs_are = x.is.funs_are ∙ ap (λ (l : proposition.Lemma). l.funs) same ∙ sym y.is.funs_are;
+      tparams = x.is.tparams ∙ ap (λ (l : proposition.Lemma). l.tparams) same ∙ sym y.is.tparams;
+      funs = x.is.funs ∙ ap (λ (l : proposition.Lemma). l.funs) same ∙ sym y.is.funs;
     }
 
--- Two clauses have the same type and function variables.
-pub record SameScope (a b : Clause) : Type 0 where
-  pub tparams : a.tparams ≡ b.tparams
-  pub funs : a.funs ≡ b.funs
-
 -- two clauses of one obligation have the same type and function variables
-pub same_scope : (Q : Program) (n : ℕ) (a b : Clause) → IsObligation Q n a → IsObligation Q n b → SameScope a b
+pub same_scope : (Q : Program) (n : ℕ) (a b : Clause) → IsObligation Q n a → IsObligation Q n b → HasScope a b.tparams b.funs
 same_scope Q n a b x y =
     let same : x.declared ≡ y.declared = one_item x.declared y.declared (sym x.number ∙ y.number) in
     let there : IsDeclaredClause Q y.declared a = subst (λ (d : Declared). IsDeclaredClause Q d a) same x.says in
-    let it : HasScope a b.tparams b.funs = one_scope Q y.declared a b (scope_of Q there) (scope_of Q y.says) in
-    record { tparams = it.tparams_are; funs = it.funs_are }
+    one_scope Q y.declared a b (scope_of Q there) (scope_of Q y.says)
 
 -- an item of two lists stands in the one or the other
 in_either : {A : Type 0} (xs ys : List A) (n : ℕ) (x : A) → slice_get (xs ++ ys) n ≡ Some x → (slice_get xs n ≡ Some x) ⊎ ((m : ℕ) × (slice_get ys m ≡ Some x))
 in_either [] ys n x at = inr (n, at)
 in_either (y ∷ xs) ys zero x at = inl at
 in_either (y ∷ xs) ys (suc n) x at = in_either xs ys n x at
-
--- behind the front stand the others
-behind_all : {A : Type 0} (xs ys : List A) (n : ℕ) → slice_get (xs ++ ys) (length xs + n) ≡ slice_get ys n
-behind_all [] ys n = let e : 0 + n ≡ n = omega arith in ap (slice_get ys) e
-behind_all (x ∷ xs) ys n = let e : suc (length xs) + n ≡ suc (length xs + n) = omega arith in ap (slice_get (x ∷ xs ++ ys)) e ∙ behind_all xs ys n
-
--- the variables from a number on have their types
-frees_have : (Q : Program) (context : Context) (start : ℕ) (types : List Ty) →
-    ((i : ℕ) (T : Ty) → slice_get types i ≡ Some T → slice_get context.vars (start + i) ≡ Some (Some T)) →
-    HaveTypes Q anywhere context [] (map (λ (i : ℕ). term.Free i) (numbers_from start (length types))) types
-frees_have Q context start [] stand = typing.none
-frees_have Q context start (T ∷ types) stand =
-    let none : start + 0 ≡ start = omega arith in
-    let first : HasType Q anywhere context (term.Free start) T = free_has Q context start T (ap (slice_get context.vars) (sym none) ∙ stand 0 T refl) in
-    typing.more first (frees_have Q context (start + 1) types
-    (λ i S at. let one : (start + 1) + i ≡ start + suc i = omega arith in ap (slice_get context.vars) one ∙ stand (suc i) S at))
 
 -- Fresh variables stand behind those of a sequent.
 module _ (Q : Program) (old : Context) (is_context : IsTypedContext Q old) (front : List (Option Ty)) (types : List Ty)
@@ -150,8 +127,11 @@ module _ (Q : Program) (old : Context) (is_context : IsTypedContext Q old) (fron
   fresh_have : (next : ℕ) → length front ≡ next →
       HaveTypes Q anywhere new [] (map (λ (i : ℕ). term.Free i) (numbers_from next (length types))) types
   fresh_have next long =
-      frees_have Q new next types
-      (λ i T at. ap (λ (m : ℕ). slice_get (front ++ live types) (m + i)) (sym long) ∙ behind_all front (live types) i ∙ live_there types i T at)
+      let Have : List Term → List Ty → Type 0 = λ (terms : List Term) (Ts : List Ty). HaveTypes Q anywhere new [] terms Ts in
+      subst₂ Have (append-nil (map (λ (i : ℕ). term.Free i) (numbers_from next (length types)))) (append-nil types)
+      (frees_have Q new next types [] []
+      (λ i T at. ap (λ (m : ℕ). slice_get (front ++ live types) (m + i)) (sym long) ∙ behind_front front (live types) i ∙ live_there types i T at)
+      typing.none)
 
 -- constructor k on fresh variables has the datatype's type
 pub fresh_constructor_has : (Q : Program) (old : Context) → IsTypedContext Q old → (front : List (Option Ty)) →
@@ -198,7 +178,8 @@ constructed : (Q : Program) (context : Context) (d k : ℕ) (types : List Ty) (f
 constructed Q context d k types fields (typing.free at met) b e = let wrong : ⊥ = cc in absurd wrong
 constructed Q context d k types fields (typing.bound at met) b e = let wrong : ⊥ = cc in absurd wrong
 constructed Q context d k types fields (typing.lit small is) b e = let wrong : ⊥ = cc in absurd wrong
-constructed Q context d k types fields (typing.con {bound = bound} {d = f} {k = l} {types = us} {fields = parts} {T = T} {c = c} found is_type is met have) b e =
+constructed Q context d k types fields
+    (typing.con {bound = bound} {d = f} {k = l} {types = us} {fields = parts} {T = T} {c = c} found is_type is met have) b e =
     let same_d : f ≡ d = cc in
     let same_k : l ≡ k = cc in
     let same_types : us ≡ types = cc in

@@ -1,5 +1,5 @@
 -- What a row leaves of a typed sequent is typed.
-use Rattle.std.proofs.Common.{◌≡◌, ◌⊎◌, inl, inr, ℕ, zero, suc, ◌+◌, ◌<◌, List, [], ◌∷◌, ◌++◌, map, length, Option, Some, None, slice_get}
+use Rattle.std.proofs.Common.{◌≡◌, ℕ, suc, ◌+◌, ◌<◌, List, [], ◌∷◌, ◌++◌, map, length, Option, Some, None, slice_get}
 use Rattle.std.proofs.Common.{refl, sym, ap, ◌∙◌, subst, arith}
 use Rattle.std.specs.List.{All}
 use Rattle.std.specs.Prelude.{slice_set}
@@ -7,9 +7,8 @@ use Rattle.std.proofs.lemmas.List.{length-append, length-map, length-set}
 use Rattle.std.proofs.lemmas.List.Elements.{All-head, All-tail, All-nil, All-cons, All-append, All-map, All-weaker, All-set}
 use Rattle.px_terms.specs.declared.types.Ty.{Ty}
 use Rattle.px_terms.specs.declared.types.Ty.TheVariants as type
-use Rattle.px_terms.specs.declared.types.FnType.{FnType}
 use Rattle.px_terms.specs.declared.types.Fun.{Fun}
-use Rattle.px_terms.specs.declared.term.Term.{Term, out-Term}
+use Rattle.px_terms.specs.declared.term.Term.{Term}
 use Rattle.px_terms.specs.declared.clause.Equation.{Equation}
 use Rattle.px_terms.specs.declared.clause.Clause.{Clause}
 use Rattle.px_terms.specs.declared.clause.Sigma.{Sigma}
@@ -18,13 +17,11 @@ use Rattle.px_terms.specs.declared.program.DataDef.{DataDef}
 use Rattle.px_terms.specs.declared.program.Program.{Program}
 use Rattle.px_terms.specs.declared.sequent.Context.{Context}
 use Rattle.px_terms.specs.declared.sequent.Present.{Present}
-use Rattle.px_terms.specs.declared.sequent.Frame.{Frame}
 use Rattle.px_terms.specs.declared.sequent.Sequent.{Sequent}
 use Rattle.px_terms.specs.declared.row.Side.{Side}
 use Rattle.px_terms.specs.declared.row.Side.TheVariants.{Left, Right}
 use Rattle.px_terms.specs.declared.row.Kind.{Kind}
 use Rattle.px_terms.specs.declared.row.Ref.{Ref}
-use Rattle.px_terms.specs.declared.row.Ref.TheVariants as reference
 use Rattle.px_terms.specs.declared.row.Row.{Row}
 use Rattle.px_terms.specs.Types.{ty_instance, tys_instance}
 use Rattle.px_terms.specs.Head.{Head}
@@ -34,28 +31,28 @@ use Rattle.px_terms.specs.TreeEdits.{equation_put, equations_put, with_side}
 use Rattle.px_terms.specs.Programs.{constructor_at}
 use Rattle.px_terms.specs.Typing.{anywhere, IsType, AreTypes, HasType, live}
 use Rattle.px_terms.specs.Typing as typing
-use Rattle.px_terms.specs.TypedPrograms.{IsTyped, IsTypedData, IsTypedCon}
-use Rattle.px_terms.specs.TypedSequents.{IsTypedContext, IsTypedEquation, IsTypedPresent, IsTypedSequent}
+use Rattle.px_terms.specs.TypedPrograms.{IsTypedData, IsTypedCon}
+use Rattle.px_terms.specs.TypedSequents.{IsTypedEquation, IsTypedPresent}
 use Rattle.px_terms.specs.Clauses.{IsClauseOf, equals}
 use Rattle.px_terms.specs.Clauses as clauses
 use Rattle.px_terms.specs.Obligations.{IsObligation}
 use Rattle.px_terms.specs.Extending.{IsWellFounded}
-use Rattle.px_terms.specs.Sequents.{side_of, frame_put, with_alternative_side, with_fact_side}
+use Rattle.px_terms.specs.Sequents.{side_of}
 use Rattle.px_terms.specs.Steps.{Step}
 use Rattle.px_terms.specs.Noting.{IsOpen, FitsClause, equation_instance, equations_instance, own_sigma}
 use Rattle.px_terms.specs.Noting as noting
-use Rattle.px_terms.specs.Rows.{Opens, fresh_constructor, case_of, cases_from, AreCases, split_of, splits_from, AreTermCases, IsInjected, pairs_equal, with_facts}
-use Rattle.px_terms.specs.Rows.{to_show, noted}
+use Rattle.px_terms.specs.Rows.{Opens, fresh_constructor, case_of, cases_from, AreCases, split_of, splits_from, AreTermCases, IsInjected}
+use Rattle.px_terms.specs.Rows.{pairs_equal, with_facts, to_show, noted}
 use Rattle.px_terms.specs.Rows as rows
 use Rattle.px_totality.specs.Laws.{IsContext}
-use Rattle.px_totality.proofs.Instances.{written_types, instances_are_types}
+use Rattle.px_totality.proofs.Instances.{instances_are_types}
 use Rattle.px_totality.proofs.TypesOfTerms.{all_at, DataType, data_type, data_is_typed, type_of, constructor_of, fields_are_types}
 use Rattle.px_soundness.specs.Argument.{StepsKeepTypes, RowsKeepTyping, IsTypedClause, clause_context, property_context}
 use Rattle.px_soundness.specs.Validity.{IsSequentOf}
 use Rattle.px_soundness.proofs.ClausesTyped.{own_typed, open_clauses_are_typed}
 use Rattle.px_soundness.proofs.RowsChanges.{in_front, PutsIn}
-use Rattle.px_soundness.proofs.RowsInstances.{weakened, put_keeps, clause_alone, puts_own, puts_nothing, equation_put_in, with_more}
-use Rattle.px_soundness.proofs.RowsScopes.{SameScope, same_scope, fresh_context, fresh_constructor_has, still_live, others_live, fields_typed}
+use Rattle.px_soundness.proofs.RowsInstances.{weakened, put_keeps, clause_alone, puts_own, puts_nothing, equation_put_in}
+use Rattle.px_soundness.proofs.RowsScopes.{HasScope, same_scope, fresh_context, fresh_constructor_has, still_live, others_live, fields_typed}
 
 -- What is put in by a note: something fits between the contexts.
 record Puts (Q : Program) (old new : Context) (sigma : Sigma) : Type 0 where
@@ -372,7 +369,8 @@ module _ (Q : Program) (founded : IsWellFounded Q) (own : Clause) (on : List ℕ
   no_child : All (IsSequentOf Q own on) []
   no_child = All-nil (IsSequentOf Q own on)
 
-side_has : (Q : Program) (context : Context) (e : Equation) (side : Side) (has : IsTypedEquation Q context e) → HasType Q anywhere context (side_of e side) has.T
+side_has : (Q : Program) (context : Context) (e : Equation) (side : Side) (has : IsTypedEquation Q context e) →
+    HasType Q anywhere context (side_of e side) has.T
 side_has Q context e Left has = has.left
 side_has Q context e Right has = has.right
 
@@ -393,7 +391,8 @@ module _ (steps_keep_types : StepsKeepTypes) where
   opened : (Q : Program) → IsWellFounded Q → (n : ℕ) (own : Clause) → IsObligation Q n own → (on : List ℕ) {s : Sequent} {r : Row} {children : List Sequent} →
       IsSequentOf Q own on s → Opens Q n s r children → All (IsSequentOf Q own on) children
   opened Q founded n own obligation on {s} is (rows.same stands equal) = no_child Q founded own on s is
-  opened Q founded n own obligation on {s} is (rows.step {child = child} {j = j} {side = side} {path = path} {kind = kind} {e = e} {t = t} stands step child_is small) =
+  opened Q founded n own obligation on {s} is
+      (rows.step {child = child} {j = j} {side = side} {path = path} {kind = kind} {e = e} {t = t} stands step child_is small) =
       let has : IsTypedEquation Q s.context e = all_at (IsTypedEquation Q s.context) s.alternatives j e is.typed.alternatives stands in
       let others : List Equation = slice_set s.alternatives j (with_side side e t) in
       one_child Q founded own on s is child
@@ -401,15 +400,17 @@ module _ (steps_keep_types : StepsKeepTypes) where
       (alternatives_there Q founded own on s is others
       (All-set (IsTypedEquation Q s.context) s.alternatives j (with_side side e t) (stepped Q founded own on s is e side path kind t has step)
       is.typed.alternatives)))
-  opened Q founded n own obligation on {s} is (rows.step_in_fact {child = child} {j = j} {side = side} {path = path} {kind = kind} {e = e} {t = t} stands step child_is small) =
+  opened Q founded n own obligation on {s} is
+      (rows.step_in_fact {child = child} {j = j} {side = side} {path = path} {kind = kind} {e = e} {t = t} stands step child_is small) =
       let has : IsTypedEquation Q s.context e = all_at (IsTypedEquation Q s.context) s.facts j e is.typed.facts stands in
       let others : List Equation = slice_set s.facts j (with_side side e t) in
       one_child Q founded own on s is child
       (subst (IsSequentOf Q own on) (sym child_is)
       (facts_there Q founded own on s is others
       (All-set (IsTypedEquation Q s.context) s.facts j (with_side side e t) (stepped Q founded own on s is e side path kind t has step) is.typed.facts)))
-  opened Q founded n own obligation on {s} is (rows.note {about = about} {sigma = sigma} {own = other} {clause = clause} not_own also is_open may fits are small) =
-      let scope : SameScope own other = same_scope Q n own other obligation also in
+  opened Q founded n own obligation on {s} is
+      (rows.note {about = about} {sigma = sigma} {own = other} {clause = clause} not_own also is_open may fits are small) =
+      let scope : HasScope own other.tparams other.funs = same_scope Q n own other obligation also in
       let old : Context = clause_context other about clause in
       let put : Puts Q old s.context sigma = puts_of Q n other s.context sigma (is.tparams ∙ scope.tparams) (is.funs ∙ scope.funs) is_open fits in
       subst (All (IsSequentOf Q own on)) (sym are)
