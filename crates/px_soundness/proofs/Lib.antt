@@ -1,7 +1,12 @@
 pub mod Forward
 pub mod Found
+pub mod KeptArms
+pub mod KeptFunctions
+pub mod KeptRows
 pub mod ObligationsHold
 pub mod OneClause
+pub mod Openings
+pub mod OpeningsOfClauses
 pub mod PlainRowsAreSound
 pub mod Sides
 pub mod Stacks
