@@ -3,8 +3,13 @@ pub mod ClausesTyped
 pub mod FirstTyped
 pub mod Forward
 pub mod Found
+pub mod KeptArms
+pub mod KeptFunctions
+pub mod KeptRows
 pub mod ObligationsHold
 pub mod OneClause
+pub mod Openings
+pub mod OpeningsOfClauses
 pub mod PlainRowsAreSound
 pub mod RowsAreSound
 pub mod RowsChanges

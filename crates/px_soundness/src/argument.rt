@@ -28,7 +28,6 @@ pub fn open_clauses_are_typed()
 
 /// A row that applies to a typed sequent applies to it in each extension of the program, and leaves the same.
 pub fn rows_are_kept()
-    requires { RowsAreKept }
     ensures { RowsAreKept }
 {}
 
