@@ -4,8 +4,15 @@
 //! to whoever asks.
 #![tactic(auto)]
 
+mod copies;
 mod ends;
 mod facts;
+mod match_free;
+mod put_depths;
+mod put_limits;
+mod put_sizes;
+mod shapes;
+mod small;
 mod splits;
 mod variables;
 
