@@ -15,7 +15,7 @@ use std::alloc::Global;
 
 /// The sequent with the fields of the fact's two sides equal, as new last facts, where both sides are one constructor.
 /// NoSuchFact exactly where the number is no fact's; NotSameHead exactly where the sides are not one constructor; Oversize
-/// exactly where the child would be over the limits. It takes the sequent, and memory for the copies of the fields.
+/// exactly where the child would be over the limits. It takes the sequent, and memory for a copy of the fact and of its fields.
 pub fn inject(alloc: Global, sequent: Sequent, fact: u32) -> Result<Sequent, SplitEnd>
     ensures ok { IfOk result (λ child. IsInjected sequent fact child × IsWithinLimits child) }
     // Where there is a child within the limits, it is the answer, besides want of memory.
@@ -41,7 +41,12 @@ fn with_fields(alloc: Global, sequent: Sequent, sides: &Equation) -> Result<Sequ
     let Some(heads) = one_head(&sides.left, &sides.right) else {
         return Err(SplitEnd::NotSameHead);
     };
-    let child = with_pairs(alloc, sequent, heads.fields.as_slice(), heads.parts.as_slice())?;
+    let child = with_pairs(
+        alloc,
+        sequent,
+        heads.fields.as_slice(),
+        heads.parts.as_slice(),
+    )?;
     if is_within_limits(&child) {
         Ok(child)
     } else {

@@ -32,13 +32,7 @@ pub(crate) fn depth_of_put(t: &Term, variable: u32, by: &Term, height: u32) -> u
     ensures { result ≡ min (term_depth (term_put variable by.now t.now)) (2 ^ 32 - 1) }
 {
     match t {
-        Term::Free(number) => {
-            if *number == variable {
-                height
-            } else {
-                1
-            }
-        }
+        Term::Free(number) => { if *number == variable { height } else { 1 } }
         Term::Bound(_) | Term::Lit(_) => 1,
         Term::Con { types, fields, .. } => {
             let below = depth_of_tys(types.as_slice()).max(depth_of_puts(
@@ -61,8 +55,9 @@ pub(crate) fn depth_of_put(t: &Term, variable: u32, by: &Term, height: u32) -> u
             arms,
             ..
         } => {
-            let scrutinee =
-                depth_of_put(on.get(), variable, by, height).max(depth_of_tys(types.as_slice()));
+            let scrutinee = depth_of_put(on.get(), variable, by, height).max(depth_of_tys(
+                types.as_slice(),
+            ));
             scrutinee
                 .max(depth_of_puts(arms.as_slice(), variable, by, height))
                 .saturating_add(1)

@@ -26,13 +26,7 @@ pub(crate) fn size_of_put(t: &Term, variable: u32, by: &Term, nodes: u64) -> u64
     ensures { result ≡ min (term_size (term_put variable by.now t.now)) (2 ^ 64 - 1) }
 {
     match t {
-        Term::Free(number) => {
-            if *number == variable {
-                nodes
-            } else {
-                1
-            }
-        }
+        Term::Free(number) => { if *number == variable { nodes } else { 1 } }
         Term::Bound(_) | Term::Lit(_) => 1,
         Term::Con { types, fields, .. } => size_of_tys(types.as_slice())
             .saturating_add(size_of_puts(fields.as_slice(), variable, by, nodes))

@@ -6,7 +6,9 @@ ghost use Rattle.px_terms.specs.Sequents.{IsSmall, IsSmallType, IsSmallEquation,
 ghost use Rattle.px_terms.specs.Types.{ty_instance, tys_instance};
 
 use px_terms::limits::{FACTS, SEQUENT_DEPTH, SEQUENT_NODES, VARIABLES};
-use px_terms::{Equation, Present, Sequent, Term, Ty, depth, instance_is_within, size, ty_is_within};
+use px_terms::{
+    Equation, Present, Sequent, Term, Ty, depth, instance_is_within, size, ty_is_within,
+};
 
 /// Whether the term is within the limits of a sequent.
 fn is_small(term: &Term) -> bool

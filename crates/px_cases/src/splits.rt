@@ -12,7 +12,9 @@ ghost use Rattle.px_cases.specs.Ends.{IsOversized};
 use crate::copies::copy_sequent;
 use crate::ends::SplitEnd;
 use crate::match_free::is_match_free;
-use crate::shapes::{Data, Shape, data_of, on_fresh_variables, push_fields, room_for_fields, shape_at};
+use crate::shapes::{
+    Data, Shape, data_of, on_fresh_variables, push_fields, room_for_fields, shape_at,
+};
 use crate::small::is_within_limits;
 use px_descent::Checked;
 use px_terms::{Equation, NoMemory, Sequent, Term, copy};
@@ -77,12 +79,7 @@ fn splits(
 }
 
 /// The sequent with a new last fact that the term is this constructor on fresh variables.
-fn split(
-    alloc: Global,
-    sequent: Sequent,
-    term: &Term,
-    shape: &Shape,
-) -> Result<Sequent, SplitEnd>
+fn split(alloc: Global, sequent: Sequent, term: &Term, shape: &Shape) -> Result<Sequent, SplitEnd>
     ensures split { IfOk result (λ child. child ≡ split_of sequent term.now shape.now.datatype shape.now.args.now shape.now.con shape.now.constructor.now) }
     ensures small { IfOk result IsWithinLimits }
     ensures end { IfErr result (IsOversized (IsWithinLimits (split_of sequent term.now shape.now.datatype shape.now.args.now shape.now.con shape.now.constructor.now))) }

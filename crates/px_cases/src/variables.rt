@@ -11,7 +11,9 @@ ghost use Rattle.px_cases.specs.Ends.{IsOversized};
 use crate::copies::{put_frame, vars_without};
 use crate::ends::SplitEnd;
 use crate::put_limits::is_small_put;
-use crate::shapes::{Data, Shape, data_of, on_fresh_variables, push_fields, room_for_fields, shape_at};
+use crate::shapes::{
+    Data, Shape, data_of, on_fresh_variables, push_fields, room_for_fields, shape_at,
+};
 use crate::small::are_small_types;
 use px_descent::Checked;
 use px_terms::{Context, NoMemory, Sequent, Ty, copy_fn_types, put_equations};
@@ -78,12 +80,7 @@ fn cases(
 }
 
 /// The sequent where the variable is this constructor on fresh variables. Its sizes are asked before its terms are built.
-fn case(
-    alloc: Global,
-    sequent: &Sequent,
-    variable: u32,
-    shape: &Shape,
-) -> Result<Sequent, SplitEnd>
+fn case(alloc: Global, sequent: &Sequent, variable: u32, shape: &Shape) -> Result<Sequent, SplitEnd>
     ensures case { IfOk result (λ child. child ≡ case_of sequent.now variable shape.now.datatype shape.now.args.now shape.now.con shape.now.constructor.now) }
     ensures small { IfOk result IsWithinLimits }
     ensures end { IfErr result (IsOversized (IsWithinLimits (case_of sequent.now variable shape.now.datatype shape.now.args.now shape.now.con shape.now.constructor.now))) }
