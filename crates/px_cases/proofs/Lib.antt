@@ -1,0 +1,10 @@
+pub mod CaseLemmas
+pub mod CaseLists
+pub mod EndLemmas
+pub mod FactLemmas
+pub mod Fields
+pub mod Largest
+pub mod Lists
+pub mod MatchTrees
+pub mod Numbers
+pub mod SplitLemmas

@@ -3,6 +3,7 @@ ghost use Rattle.std.specs.Prelude.{◌≡◌};
 ghost use Rattle.px_cases.specs.declared.ends.SplitEnd.TheVariants as ends;
 
 use px_terms::NoMemory;
+use px_types::NotTyped;
 use std::alloc::AllocError;
 
 /// Why there are no such children. Where several hold, the first in this order is said.
@@ -35,6 +36,19 @@ impl From<AllocError> for SplitEnd {
 
     fn from(_end: AllocError) -> SplitEnd {
         SplitEnd::NoMemory
+    }
+}
+
+impl From<NotTyped> for SplitEnd {
+    ghost use Rattle.px_cases.specs.Ends.{end_of};
+
+    ghost from_gives = { λ found end. end ≡ end_of found };
+
+    fn from(found: NotTyped) -> SplitEnd {
+        match found {
+            NotTyped::IllTyped => SplitEnd::IllTyped,
+            NotTyped::NoMemory => SplitEnd::NoMemory,
+        }
     }
 }
 

@@ -1,3 +1,4 @@
+pub mod FieldLemmas
 pub mod InstanceSizes
 pub mod Largest
 pub mod Replacing

@@ -18,6 +18,7 @@ mod row;
 mod sameness;
 mod sequent;
 mod sizes;
+mod subterms;
 mod term;
 #[cfg(test)]
 mod tests;
@@ -47,5 +48,6 @@ pub use row::{Kind, PlainRow, Ref, Row, Side, Target, Tree};
 pub use sameness::{same_fun, same_funs, same_term, same_terms, same_ty, same_tys};
 pub use sequent::{Context, Frame, Present, Sequent};
 pub use sizes::{size, size_of_terms, size_of_ty, size_of_tys};
+pub use subterms::is_con_subterm;
 pub use term::{Term, Value};
 pub use types::{FnType, Fun, Ty};
