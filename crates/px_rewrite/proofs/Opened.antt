@@ -1,5 +1,5 @@
 -- An arm with fields put in, part by part, and how many nodes it has.
-use Rattle.std.proofs.Common.{◌≡◌, ◌<◌, ◌+◌, ◌-◌, ◌^◌, min, ℕ, List, [], ◌∷◌, ◌++◌, map, sum, length, get_or, take, refl, sym, ap, ◌∙◌, arith, add-zero}
+use Rattle.std.proofs.Common.{◌≡◌, ◌<◌, ◌+◌, ◌-◌, ◌^◌, min, ℕ, List, [], ◌∷◌, ◌++◌, map, length, get_or, take, refl, sym, ap, ◌∙◌, arith, add-zero}
 use Rattle.std.proofs.lemmas.List.{take_more, map-append, length-map, length-take}
 use Rattle.std.proofs.lemmas.List.Sums.{sum_by-cons}
 use Rattle.px_terms.specs.declared.types.Ty.{Ty}
@@ -106,7 +106,7 @@ module _ (P : Program) (fields : List Term) where
       s ≡ min (a + b) (2 ^ 64 - 1) → u ≡ min (s + c) (2 ^ 64 - 1) → r ≡ min (u + 1) (2 ^ 64 - 1) → r ≡ min (term_size (opened P fields t n)) (2 ^ 64 - 1)
   match_size t on o d types ts arms fs n a b c s u r t_is o_is ts_is fs_is a_is b_is c_is s_is u_is r_is =
       let whole : term_size (opened P fields t n) ≡ 1 + (term_size (opened P fields on n) + (tys_size types + terms_size (opened_arms P fields d arms n))) =
-          ap (λ (x : Term). term_size (opened P fields x n)) t_is ∙ (ap term_size (opened-Match on d types arms n) ∙ term_size-Match (opened P fields on n) d types (opened_arms P fields d arms n)) in
+      ap (λ (x : Term). term_size (opened P fields x n)) t_is ∙ (ap term_size (opened-Match on d types arms n) ∙ term_size-Match (opened P fields on n) d types (opened_arms P fields d arms n)) in
       let of_on : a ≡ min (term_size (opened P fields on n)) (2 ^ 64 - 1) = a_is ∙ ap (λ (x : Term). min (term_size (opened P fields x n)) (2 ^ 64 - 1)) o_is in
       let of_types : b ≡ min (tys_size types) (2 ^ 64 - 1) = b_is ∙ ap (λ (x : List Ty). min (tys_size x) (2 ^ 64 - 1)) ts_is in
       let of_arms : c ≡ min (terms_size (opened_arms P fields d arms n)) (2 ^ 64 - 1) = c_is ∙ ap (λ (x : List Term). min (terms_size (opened_arms P fields d x n)) (2 ^ 64 - 1)) fs_is in

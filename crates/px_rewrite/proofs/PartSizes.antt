@@ -1,5 +1,5 @@
 -- The nodes of a term with another part: what was there goes, what is put in comes.
-use Rattle.std.proofs.Common.{◌≡◌, ◌≤◌, ◌+◌, ℕ, zero, suc, List, [], ◌∷◌, map, sum, Some, None, Option, refl, sym, ap, ◌∙◌, arith, slice_get, slice_set, option_and_then}
+use Rattle.std.proofs.Common.{◌≡◌, ◌≤◌, ◌+◌, ℕ, zero, suc, List, [], ◌∷◌, map, sum, Some, None, Option, refl, ap, ◌∙◌, arith, slice_get, slice_set, option_and_then}
 use Rattle.std.specs.Option.{option_map}
 use Rattle.std.proofs.lemmas.List.Sums.{sum_by-cons}
 use Rattle.px_terms.specs.declared.term.Term.{Term, out-Term}

@@ -1,5 +1,5 @@
 -- What the code of a step found is the step, and there is one.
-use Rattle.std.proofs.Common.{◌≡◌, ◌≤◌, ◌-◌, ◌^◌, min, ℕ, List, sym, ap, subst, ◌∙◌, Option, Some, arith, Result, Ok, Err, IfOk, IsOkUnless, MatchResult}
+use Rattle.std.proofs.Common.{◌≡◌, ◌≤◌, ◌-◌, ◌^◌, min, ℕ, List, sym, subst, ◌∙◌, Option, Some, arith, Result, Ok, Err, IfOk, IsOkUnless, MatchResult}
 use Rattle.px_terms.specs.declared.term.Term.{Term}
 use Rattle.px_terms.specs.declared.clause.Equation.{Equation}
 use Rattle.px_terms.specs.declared.program.Program.{Program}

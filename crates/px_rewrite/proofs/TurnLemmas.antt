@@ -1,8 +1,8 @@
 -- What the code of a step found is what the part turns into, and a part turns into one term.
 use Rattle.std.proofs.Common.{◌≡◌, ℕ, List, [], ◌∷◌, sym, ap, subst, ◌∙◌, Some, slice_get, Bool, true, false, nat_le, ◌==◌, Result, Ok, Err, IfOk}
 use Rattle.std.specs.Option.{option_map}
-use Rattle.px_base.specs.declared.head.Head.{Head}
-use Rattle.px_base.specs.declared.head.Head.TheVariants.{Def, Wle, Weq}
+use Rattle.px_terms.specs.Head.{Head}
+use Rattle.px_terms.specs.Head.TheVariants.{Def, Wle, Weq}
 use Rattle.px_terms.specs.declared.types.Ty.{Ty}
 use Rattle.px_terms.specs.declared.types.Fun.{Fun}
 use Rattle.px_terms.specs.declared.term.Term.{Term, out-Term}

@@ -4,7 +4,7 @@ ghost use Rattle.std.specs.Prelude.{◌≡◌, ◌-◌, ◌^◌, ℕ, map, min, 
 ghost use Rattle.px_terms.specs.Types.{fun_size};
 ghost use Rattle.px_terms.specs.Terms.{term_size, terms_size};
 ghost use Rattle.px_terms.specs.Steps.{with_fields};
-ghost use Rattle.px_rewrite.specs.Opening.{opened, opened_parts, opened_arms};
+ghost use Rattle.px_rewrite.specs.Opening.{AreAround, opened_in, opened_parts_in, opened_arms_in};
 
 use crate::opening::{Opening, field_for, inside_arm};
 use px_terms::{Fun, Program, Term, size, size_of_tys};
@@ -38,7 +38,7 @@ fn size_of_funs(funs: &[Fun]) -> u64
 /// The nodes of a part of an arm with the fields put in.
 #[cycle(size_of)]
 fn size_of_part(t: &Term, opening: &Opening) -> u64
-    ensures { (n : ℕ) → opening.now.inner ≡ min n (2 ^ 64 - 1) → result ≡ min (term_size (opened opening.now.program.now opening.now.fields.now t.now n)) (2 ^ 64 - 1) }
+    ensures { (n : ℕ) → AreAround opening.now n → result ≡ min (term_size (opened_in opening.now t.now n)) (2 ^ 64 - 1) }
 {
     match t {
         Term::Free(_) | Term::Lit(_) => 1,
@@ -68,7 +68,7 @@ fn size_of_part(t: &Term, opening: &Opening) -> u64
 /// The nodes of parts of an arm together, with the fields put in.
 #[cycle(size_of)]
 fn size_of_parts(parts: &[Term], opening: &Opening) -> u64
-    ensures { (n : ℕ) → opening.now.inner ≡ min n (2 ^ 64 - 1) → result ≡ min (terms_size (opened_parts opening.now.program.now opening.now.fields.now parts.now n)) (2 ^ 64 - 1) }
+    ensures { (n : ℕ) → AreAround opening.now n → result ≡ min (terms_size (opened_parts_in opening.now parts.now n)) (2 ^ 64 - 1) }
 {
     let mut total: u64 = 0;
     for part in parts {
@@ -80,7 +80,7 @@ fn size_of_parts(parts: &[Term], opening: &Opening) -> u64
 /// The nodes of the arms of an inner match together, with the fields put in.
 #[cycle(size_of)]
 fn size_of_arms(datatype: u32, arms: &[Term], opening: &Opening) -> u64
-    ensures { (n : ℕ) → opening.now.inner ≡ min n (2 ^ 64 - 1) → result ≡ min (terms_size (opened_arms opening.now.program.now opening.now.fields.now datatype arms.now n)) (2 ^ 64 - 1) }
+    ensures { (n : ℕ) → AreAround opening.now n → result ≡ min (terms_size (opened_arms_in opening.now datatype arms.now n)) (2 ^ 64 - 1) }
 {
     let mut total: u64 = 0;
     for (con, arm) in arms.iter().enumerate() {

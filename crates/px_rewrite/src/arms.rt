@@ -1,8 +1,8 @@
 //! The arm of a match with the fields of its constructor put in.
 
-ghost use Rattle.std.specs.Prelude.{◌≡◌, ◌-◌, ◌^◌, ℕ, min, IfOk};
+ghost use Rattle.std.specs.Prelude.{◌≡◌, ℕ, IfOk};
 ghost use Rattle.px_terms.specs.Steps.{with_fields};
-ghost use Rattle.px_rewrite.specs.Opening.{opened, opened_parts, opened_arms};
+ghost use Rattle.px_rewrite.specs.Opening.{AreAround, opened_in, opened_parts_in, opened_arms_in};
 
 use crate::opening::{Opening, field_for, inside_arm};
 use px_terms::{NoMemory, Program, Term, copy, copy_fun, copy_funs, copy_tys};
@@ -31,7 +31,7 @@ pub(crate) fn open_arm(
 /// A part of an arm with the fields put in.
 #[cycle(open)]
 fn open_part(alloc: Global, t: &Term, opening: &Opening) -> Result<Term, NoMemory>
-    ensures { (n : ℕ) → opening.now.inner ≡ min n (2 ^ 64 - 1) → IfOk result (λ r. r ≡ opened opening.now.program.now opening.now.fields.now t.now n) }
+    ensures { (n : ℕ) → AreAround opening.now n → IfOk result (λ r. r ≡ opened_in opening.now t.now n) }
 {
     match t {
         Term::Free(number) => Ok(Term::Free(*number)),
@@ -73,7 +73,7 @@ fn open_part(alloc: Global, t: &Term, opening: &Opening) -> Result<Term, NoMemor
 /// Parts of an arm with the fields put in.
 #[cycle(open)]
 fn open_parts(alloc: Global, parts: &[Term], opening: &Opening) -> Result<Items<Term>, NoMemory>
-    ensures { (n : ℕ) → opening.now.inner ≡ min n (2 ^ 64 - 1) → IfOk result (λ r. r ≡ opened_parts opening.now.program.now opening.now.fields.now parts.now n) }
+    ensures { (n : ℕ) → AreAround opening.now n → IfOk result (λ r. r ≡ opened_parts_in opening.now parts.now n) }
 {
     let mut done = Items::new(alloc);
     for part in parts {
@@ -90,7 +90,7 @@ fn open_arms(
     arms: &[Term],
     opening: &Opening,
 ) -> Result<Items<Term>, NoMemory>
-    ensures { (n : ℕ) → opening.now.inner ≡ min n (2 ^ 64 - 1) → IfOk result (λ r. r ≡ opened_arms opening.now.program.now opening.now.fields.now datatype arms.now n) }
+    ensures { (n : ℕ) → AreAround opening.now n → IfOk result (λ r. r ≡ opened_arms_in opening.now datatype arms.now n) }
 {
     let mut done = Items::new(alloc);
     for (con, arm) in arms.iter().enumerate() {

@@ -5,6 +5,7 @@ ghost use Rattle.std.specs.Option.{option_copied};
 ghost use Rattle.px_terms.specs.declared.term.Term.TheVariants.{Bound as bound};
 ghost use Rattle.px_terms.specs.Descent.{field_count as fields_of};
 ghost use Rattle.px_terms.specs.Steps.{around_part};
+ghost use Rattle.px_rewrite.specs.Opening.{AreAround};
 
 use px_terms::{Program, Term};
 use sqlite_items::at;
@@ -20,7 +21,7 @@ pub(crate) struct Opening<'a> {
 
 /// The field that stands for the pattern variable of this number; none where it is an inner arm's, or stands for itself.
 pub(crate) fn field_for<'a>(opening: &Opening<'a>, number: u32) -> Option<&'a Term>
-    ensures { (n : ℕ) → opening.now.inner ≡ min n (2 ^ 64 - 1) → unwrap_or (slice_get (around_part n opening.now.fields.now) number) (bound number) ≡ unwrap_or (option_copied result) (bound number) }
+    ensures { (n : ℕ) → AreAround opening.now n → unwrap_or (slice_get (around_part n opening.now.fields.now) number) (bound number) ≡ unwrap_or (option_copied result) (bound number) }
 {
     let number = number as usize;
     if number < opening.inner {
@@ -50,7 +51,7 @@ fn field_count(program: &Program, datatype: u32, con: usize) -> usize
 pub(crate) fn inside_arm<'a>(opening: &Opening<'a>, datatype: u32, con: usize) -> Opening<'a>
     ensures same { result.program.now ≡ opening.now.program.now }
     ensures fields { result.fields.now ≡ opening.now.fields.now }
-    ensures inner { (n : ℕ) → opening.now.inner ≡ min n (2 ^ 64 - 1) → result.inner ≡ min (fields_of opening.now.program.now datatype con + n) (2 ^ 64 - 1) }
+    ensures inner { (n : ℕ) → AreAround opening.now n → result.inner ≡ min (fields_of opening.now.program.now datatype con + n) (2 ^ 64 - 1) }
 {
     Opening {
         program: opening.program,

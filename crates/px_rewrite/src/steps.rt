@@ -10,9 +10,7 @@ ghost use Rattle.px_rewrite.specs.declared.steps.StepEnd.TheVariants as ends;
 use crate::turns::turned;
 use px_descent::Checked;
 use px_terms::limits::{SEQUENT_DEPTH, SEQUENT_NODES};
-use px_terms::{
-    Equation, Kind, NoMemory, Path, Program, Term, at_path, depth, replace_at, size,
-};
+use px_terms::{Equation, Kind, NoMemory, Path, Program, Term, at_path, depth, replace_at, size};
 use std::alloc::{AllocError, Global};
 
 /// Why there is no step.

@@ -1,4 +1,4 @@
-use Rattle.std.proofs.Common.{◌≡◌, ◌-◌, ◌+◌, ◌^◌, min, ap, ◌∙◌, sym, List}
+use Rattle.std.proofs.Common.{◌≡◌, ◌-◌, ◌+◌, ◌^◌, min, ap, ◌∙◌, List}
 use Rattle.px_terms.specs.declared.term.Term.{Term}
 use Rattle.px_terms.specs.declared.program.Program.{Program}
 use Rattle.px_terms.specs.Terms.{term_size}
@@ -17,9 +17,9 @@ size_of_arms-loop-con-preserved t c n is =
     let inner = field_count P d i + n in
     let inside = c.inside_arm-inside.result in
     let one : c.size_of_part.result ≡ min (term_size (opened P fields arm inner)) (2 ^ 64 - 1) =
-        c.size_of_part.ensures inner (c.inside_arm-inside.ensures.inner n is)
-        ∙ ap (λ (Q : Program). min (term_size (opened Q inside.fields.now arm inner)) (2 ^ 64 - 1)) c.inside_arm-inside.ensures.same
-        ∙ ap (λ (fs : List Term). min (term_size (opened P fs arm inner)) (2 ^ 64 - 1)) c.inside_arm-inside.ensures.fields in
+    c.size_of_part.ensures inner (c.inside_arm-inside.ensures.inner n is)
+    ∙ ap (λ (Q : Program). min (term_size (opened Q inside.fields.now arm inner)) (2 ^ 64 - 1)) c.inside_arm-inside.ensures.same
+    ∙ ap (λ (fs : List Term). min (term_size (opened P fs arm inner)) (2 ^ 64 - 1)) c.inside_arm-inside.ensures.fields in
     arms_size_next P fields d c.args.arms.now i arm n c.loop-con.total c.size_of_part.result c.saturating_add-total.result c.loop-con-test.true c.index-arms-con.is (c.loop-con.invariant n is) one c.saturating_add-total.ensures
 
 pub size_of_part-returns-in-Match : goal.size_of_part-returns-in-Match

@@ -20,9 +20,9 @@ open_arms-loop-con-preserved t c n is =
     let inner = field_count P d i + n in
     let inside = c.inside_arm-inside.result in
     let last : c.in_ok-open_part.field-0 ≡ opened P fields arm inner =
-        c.in_ok-open_part.ensures inner (c.inside_arm-inside.ensures.inner n is)
-        ∙ ap (λ (Q : Program). opened Q inside.fields.now arm inner) c.inside_arm-inside.ensures.same
-        ∙ ap (λ (fs : List Term). opened P fs arm inner) c.inside_arm-inside.ensures.fields in
+    c.in_ok-open_part.ensures inner (c.inside_arm-inside.ensures.inner n is)
+    ∙ ap (λ (Q : Program). opened Q inside.fields.now arm inner) c.inside_arm-inside.ensures.same
+    ∙ ap (λ (fs : List Term). opened P fs arm inner) c.inside_arm-inside.ensures.fields in
     c.in_ok-push.ensures.ok
     ∙ ap (λ (before : List Term). before ++ c.in_ok-open_part.field-0 ∷ []) (c.loop-con.invariant n is)
     ∙ ap (λ (one : Term). opened_arms P fields d (take i arms) n ++ one ∷ []) last
@@ -35,7 +35,7 @@ open_part-returns-in_ok-open_parts-in-Con t c n is =
     let whole = opened-Con P fields c.in-Con.datatype c.in-Con.con c.in-Con.types c.in-Con.fields n in
     let types : c.in_ok-copy_tys-in-Con.field-0 ≡ c.in-Con.types = c.in_ok-copy_tys-in-Con.ensures ∙ c.as_slice.ensures in
     let parts : c.in_ok-open_parts-in-Con.field-0 ≡ opened_parts P fields c.in-Con.fields n =
-        c.in_ok-open_parts-in-Con.ensures n is ∙ ap (λ (ts : List Term). opened_parts P fields ts n) c.as_slice-in-Con.ensures in
+    c.in_ok-open_parts-in-Con.ensures n is ∙ ap (λ (ts : List Term). opened_parts P fields ts n) c.as_slice-in-Con.ensures in
     ap (λ (ts : List Ty). Con c.in-Con.datatype c.in-Con.con ts c.in_ok-open_parts-in-Con.field-0) types
     ∙ ap (λ (ts : List Term). Con c.in-Con.datatype c.in-Con.con c.in-Con.types ts) parts
     ∙ sym (ap (λ (x : Term). opened P fields x n) c.in-Con.is ∙ whole)
@@ -47,7 +47,7 @@ open_part-returns-in_ok-open_parts-in-Call t c n is =
     let whole = opened-Call P fields c.in-Call.fun c.in-Call.funs c.in-Call.args n in
     let funs : c.in_ok-copy_funs-in-Call.field-0 ≡ c.in-Call.funs = c.in_ok-copy_funs-in-Call.ensures ∙ c.as_slice-in-Call.ensures in
     let parts : c.in_ok-open_parts-in-Call.field-0 ≡ opened_parts P fields c.in-Call.args n =
-        c.in_ok-open_parts-in-Call.ensures n is ∙ ap (λ (ts : List Term). opened_parts P fields ts n) c.as_slice-in-Call-2.ensures in
+    c.in_ok-open_parts-in-Call.ensures n is ∙ ap (λ (ts : List Term). opened_parts P fields ts n) c.as_slice-in-Call-2.ensures in
     ap (λ (f : Fun). Call f c.in_ok-copy_funs-in-Call.field-0 c.in_ok-open_parts-in-Call.field-0) c.in_ok-copy_fun-in-Call.ensures
     ∙ ap (λ (fs : List Fun). Call c.in-Call.fun fs c.in_ok-open_parts-in-Call.field-0) funs
     ∙ ap (λ (ts : List Term). Call c.in-Call.fun c.in-Call.funs ts) parts

@@ -1,5 +1,4 @@
 use Rattle.std.proofs.Common.{◌≡◌, ◌≤◌, ◌<◌, ◌+◌, ◌-◌, length, slice_get, unwrap_or, ap, sym, ◌∙◌, arith}
-use Rattle.px_terms.specs.declared.term.Term.{Term}
 use Rattle.px_terms.specs.declared.term.Term.TheVariants.{Bound}
 use Rattle.px_rewrite.proofs.FieldLemmas.{inner_stays, past_stays, field_stands}
 use Rattle.px_rewrite.proofs.opening.field_for.Goals as goal

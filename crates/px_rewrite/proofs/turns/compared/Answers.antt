@@ -1,5 +1,5 @@
 use Rattle.px_rewrite.proofs.TurnLemmas.{order_turns, equality_turns, compares_literals}
-use Rattle.std.proofs.Common.{◌≡◌, subst, sym}
+use Rattle.std.proofs.Common.{subst, sym}
 use Rattle.px_rewrite.specs.Comparing.{AreLiterals}
 use Rattle.px_rewrite.proofs.turns.compared.Goals as goal
 
