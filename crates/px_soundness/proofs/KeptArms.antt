@@ -1,5 +1,5 @@
 -- A typed arm with fields put in is the same term in each extension of the program, since its constructors have as many fields there.
-use Rattle.std.proofs.Common.{◌≡◌, ℕ, suc, ◌+◌, List, [], ◌∷◌, map, Some, slice_get, refl, sym, ap, ◌∙◌, subst, arith}
+use Rattle.std.proofs.Common.{◌≡◌, ℕ, suc, ◌+◌, List, ◌∷◌, map, Some, slice_get, refl, sym, ap, ◌∙◌, subst, arith}
 use Rattle.px_terms.specs.declared.types.Ty.{Ty}
 use Rattle.px_terms.specs.declared.term.Term.{Term, out-Term}
 use Rattle.px_terms.specs.declared.term.Term.TheVariants as term
@@ -77,7 +77,8 @@ module _ (fields : List Term) where
           counted P d k D c found here ∙ sym (counted Q d k D c (datatype_stands P Q extends d D found) here) in
           let first : put P body (field_count P d k + inner) ≡ put Q body (field_count Q d k + inner) =
           subst Same (roll-out-Term body) (layer_same is) (field_count P d k + inner) ∙ ap (λ (n : ℕ). put Q body (n + inner)) many in
-          let others = arms_same are d D found (k + 1) (λ i. let one : (k + 1) + i ≡ k + suc i = omega arith in ap (slice_get D.cons) one ∙ same (suc i)) inner in
+          let others =
+          arms_same are d D found (k + 1) (λ i. let one : (k + 1) + i ≡ k + suc i = omega arith in ap (slice_get D.cons) one ∙ same (suc i)) inner in
           λ i. first i ∷ others i
 
     -- a typed arm with the fields put in is the same in both programs

@@ -12,7 +12,6 @@ use Rattle.px_terms.specs.declared.clause.Clause.{Clause}
 use Rattle.px_terms.specs.declared.clause.Sigma.{Sigma}
 use Rattle.px_terms.specs.declared.program.DataDef.{DataDef}
 use Rattle.px_terms.specs.declared.program.Def as definition
-use Rattle.px_terms.specs.declared.program.Lemma as proposition
 use Rattle.px_terms.specs.declared.program.Declared.TheVariants as declared
 use Rattle.px_terms.specs.declared.program.Program.{Program}
 use Rattle.px_terms.specs.declared.sequent.Context.{Context}
@@ -89,7 +88,8 @@ module _ (P Q : Program) (extends : IsExtension Q P) where
 
   -- what is open to an obligation stays so
   pub open_kept : (n : ℕ) (own : Clause) {about : Ref} {clause : Clause} → IsOpen P n own about clause → IsOpen Q n own about clause
-  open_kept n own (noting.property {h = h} {p = p} follows is) = noting.property (known_kept n (functions_alone own.tparams own.funs) h p follows) (clause_kept is)
+  open_kept n own (noting.property {h = h} {p = p} follows is) =
+      noting.property (known_kept n (functions_alone own.tparams own.funs) h p follows) (clause_kept is)
   open_kept n own (noting.lemma_below {number = number} {i = i} {l = l} stands below found e) =
       let still = stands_still Q.declared P.declared number (declared.Lemma i) extends.declared stands in
       noting.lemma_below still below (stands_still Q.lemmas P.lemmas i l extends.lemmas found) e

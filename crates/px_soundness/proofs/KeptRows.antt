@@ -1,5 +1,5 @@
 -- A row that applies to a typed sequent applies to it in each extension of the program, and leaves the same.
-use Rattle.std.proofs.Common.{◌≡◌, ℕ, zero, suc, List, [], ◌∷◌, Some, slice_get, ap, ◌∙◌, subst}
+use Rattle.std.proofs.Common.{◌≡◌, ℕ, zero, suc, List, [], Some, slice_get, ap, ◌∙◌, subst}
 use Rattle.std.specs.Option.{option_map}
 use Rattle.std.specs.List.{All}
 use Rattle.px_terms.specs.declared.types.Ty.{Ty}

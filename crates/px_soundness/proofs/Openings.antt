@@ -2,7 +2,7 @@
 use Rattle.std.proofs.Common.{◌≡◌, ◌≢◌, ℕ, List, [], ◌∷◌, Bool, true, false, nat_le, ◌==◌, Option, Some, None, slice_get, refl, sym, ap, ◌∙◌, subst}
 use Rattle.std.specs.Option.{option_map}
 use Rattle.px_terms.specs.Head.{Head}
-use Rattle.px_terms.specs.Head.TheVariants.{Def, Wle, Weq, FnVar}
+use Rattle.px_terms.specs.Head.TheVariants.{Def, Wle, Weq}
 use Rattle.px_terms.specs.declared.types.Ty.{Ty, out-Ty}
 use Rattle.px_terms.specs.declared.types.Ty.TheOpen.{Ty-F}
 use Rattle.px_terms.specs.declared.types.Ty.TheVariants as type
@@ -120,21 +120,21 @@ one_step P facts s path k t u one other =
     some_is one.becomes other.becomes (becomes P facts k (out-Term other.part)) first (turned P facts other.turns) in
     some_is t u (replaced s path other.becomes) (ap (replaced s path) (sym same) ∙ one.whole) other.whole
 
--- A step of one side of the equation of this number, put back as a sequent.
-record StepsTo (P : Program) (facts among : List Equation) (put : Equation → Term → Sequent) (j : ℕ) (side : Side) (path : List ℕ) (k : Kind) (children : List Sequent) : Type 0 where
-  e : Equation
-  t : Term
-  at : slice_get among j ≡ Some e
-  steps : Step P facts (side_of e side) path k t
-  are : children ≡ put e t ∷ []
+module _ (P : Program) (facts among : List Equation) (put : Equation → Term → Sequent) (j : ℕ) (side : Side) (path : List ℕ) (k : Kind) where
+  -- A step of one side of the equation of this number, put back as a sequent.
+  record StepsTo (after : List Sequent) : Type 0 where
+    e : Equation
+    t : Term
+    at : slice_get among j ≡ Some e
+    steps : Step P facts (side_of e side) path k t
+    are : after ≡ put e t ∷ []
 
-one_after_step : (P : Program) (facts among : List Equation) (put : Equation → Term → Sequent) (j : ℕ) (side : Side) (path : List ℕ) (k : Kind) (a b : List Sequent) →
-    StepsTo P facts among put j side path k a → StepsTo P facts among put j side path k b → a ≡ b
-one_after_step P facts among put j side path k a b one other =
-    let e : one.e ≡ other.e = some_is one.e other.e (slice_get among j) one.at other.at in
-    let first : Step P facts (side_of other.e side) path k one.t = subst (λ (e : Equation). Step P facts (side_of e side) path k one.t) e one.steps in
-    let t : one.t ≡ other.t = one_step P facts (side_of other.e side) path k one.t other.t first other.steps in
-    one.are ∙ ap (λ (e : Equation). put e one.t ∷ []) e ∙ ap (λ (t : Term). put other.e t ∷ []) t ∙ sym other.are
+  one_after_step : (a b : List Sequent) → StepsTo a → StepsTo b → a ≡ b
+  one_after_step a b one other =
+      let e : one.e ≡ other.e = some_is one.e other.e (slice_get among j) one.at other.at in
+      let first : Step P facts (side_of other.e side) path k one.t = subst (λ (e : Equation). Step P facts (side_of e side) path k one.t) e one.steps in
+      let t : one.t ≡ other.t = one_step P facts (side_of other.e side) path k one.t other.t first other.steps in
+      one.are ∙ ap (λ (e : Equation). put e one.t ∷ []) e ∙ ap (λ (t : Term). put other.e t ∷ []) t ∙ sym other.are
 
 -- what a note puts in: what the row says, and for the hypothesis the obligation's own types and functions
 abbrev puts_in : Ref → Clause → Sigma → Sigma
@@ -148,12 +148,12 @@ says_itself (reference.Lemma i) own sigma other = refl
 says_itself reference.Hypothesis own sigma other = absurd (other refl)
 
 -- A note of what is open.
-record Notes (P : Program) (n : ℕ) (s : Sequent) (about : Ref) (sigma : Sigma) (children : List Sequent) : Type 0 where
+record Notes (P : Program) (n : ℕ) (s : Sequent) (about : Ref) (sigma : Sigma) (after : List Sequent) : Type 0 where
   own : Clause
   clause : Clause
   obligation : IsObligation P n own
   opens : IsOpen P n own about clause
-  are : children ≡ noted s clause (puts_in about own sigma)
+  are : after ≡ noted s clause (puts_in about own sigma)
 
 one_after_note : (P : Program) (n : ℕ) (s : Sequent) (about : Ref) (sigma : Sigma) (a b : List Sequent) → Notes P n s about sigma a →
     Notes P n s about sigma b → a ≡ b
