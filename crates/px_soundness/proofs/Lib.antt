@@ -1,5 +1,7 @@
 pub mod Forward
 pub mod Found
+pub mod HypothesisSizes
+pub mod NotesFunctions
 pub mod ObligationsHold
 pub mod OneClause
 pub mod PlainRowsAreSound
