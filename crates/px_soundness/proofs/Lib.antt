@@ -2,6 +2,8 @@ pub mod Forward
 pub mod Found
 pub mod HypothesisSizes
 pub mod NotesFunctions
+pub mod NotesNoted
+pub mod NotesReadings
 pub mod ObligationsHold
 pub mod OneClause
 pub mod PlainRowsAreSound
