@@ -2,6 +2,7 @@ pub mod Forward
 pub mod Found
 pub mod HypothesisSizes
 pub mod NotesFunctions
+pub mod NotesImplied
 pub mod NotesMoves
 pub mod NotesNoted
 pub mod NotesReadings
