@@ -1,10 +1,12 @@
 pub mod Forward
 pub mod Found
 pub mod HypothesisSizes
+pub mod NotesAreSound
 pub mod NotesFunctions
 pub mod NotesImplied
 pub mod NotesMoves
 pub mod NotesNoted
+pub mod NotesProperties
 pub mod NotesReadings
 pub mod ObligationsHold
 pub mod OneClause
