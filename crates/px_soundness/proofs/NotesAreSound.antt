@@ -1,5 +1,5 @@
 -- A note is sound, of a property, a lemma or the hypothesis.
-use Rattle.std.proofs.Common.{◌≡◌, ℕ, ◌<◌, List, [], ◌∷◌, map, length, Some, slice_get, refl, sym, ap, ◌∙◌, subst}
+use Rattle.std.proofs.Common.{◌≡◌, ℕ, List, [], map, length, refl, sym, ap, ◌∙◌, subst}
 use Rattle.std.specs.List.{All}
 use Rattle.std.proofs.lemmas.List.{nil_from_length}
 use Rattle.px_terms.specs.Head.{Head}
@@ -9,11 +9,8 @@ use Rattle.px_terms.specs.declared.types.Ty.{Ty}
 use Rattle.px_terms.specs.declared.types.FnType.{FnType}
 use Rattle.px_terms.specs.declared.types.Fun.{Fun}
 use Rattle.px_terms.specs.declared.term.Term.{Term}
-use Rattle.px_terms.specs.declared.term.Value.{Value}
 use Rattle.px_terms.specs.declared.clause.Clause.{Clause}
 use Rattle.px_terms.specs.declared.clause.Sigma.{Sigma}
-use Rattle.px_terms.specs.declared.program.Def as definition
-use Rattle.px_terms.specs.declared.program.Lemma as proposition
 use Rattle.px_terms.specs.declared.program.Declared.TheVariants as declared
 use Rattle.px_terms.specs.declared.program.Program.{Program}
 use Rattle.px_terms.specs.declared.sequent.Context.{Context}
@@ -22,12 +19,11 @@ use Rattle.px_terms.specs.declared.row.Ref.{Ref}
 use Rattle.px_terms.specs.declared.row.Ref.TheVariants as reference
 use Rattle.px_terms.specs.declared.row.Row.TheVariants as row
 use Rattle.px_terms.specs.Types.{tys_instance, fn_type_instance, own_types, own_functions}
-use Rattle.px_terms.specs.Meaning.{FunsMean, MeanAll}
-use Rattle.px_terms.specs.Typing.{behind, AreTypes, IsKnown, live}
+use Rattle.px_terms.specs.Meaning.{FunsMean}
+use Rattle.px_terms.specs.Typing.{behind, AreTypes, IsKnown}
 use Rattle.px_terms.specs.Clauses.{Subject, IsSubject, HasResult, IsClauseOf, functions_alone, clause_for}
 use Rattle.px_terms.specs.Clauses as clauses
-use Rattle.px_terms.specs.Holding.{AreTrueAt, SomeIsTrueAt}
-use Rattle.px_terms.specs.Extending.{FunctionsFit, FitValues, IsTrueOfAll}
+use Rattle.px_terms.specs.Extending.{FunctionsFit, IsTrueOfAll}
 use Rattle.px_terms.specs.Obligations.{IsObligation, lemma_clause, of_lemma}
 use Rattle.px_terms.specs.Guards.{Guard}
 use Rattle.px_terms.specs.Noting.{IsOpen, AreOpenArguments, FitsClause, own_sigma, property, lemma_below, hypothesis}
@@ -35,8 +31,8 @@ use Rattle.px_terms.specs.Noting as noting
 use Rattle.px_terms.specs.Rows.{noted, Opens}
 use Rattle.px_terms.specs.Rows as rows
 use Rattle.px_totality.proofs.Instances.{own_types_are}
-use Rattle.px_soundness.specs.Validity.{PresentSizes, IsValidAt, IsSequentOf}
-use Rattle.px_soundness.specs.Argument.{IsTypedClause, clause_context, OpenClausesAreTyped, Assumed}
+use Rattle.px_soundness.specs.Validity.{IsValidAt, IsSequentOf}
+use Rattle.px_soundness.specs.Argument.{IsTypedClause, OpenClausesAreTyped, Assumed}
 use Rattle.px_soundness.proofs.OneClause.{one_clause}
 use Rattle.px_soundness.proofs.HypothesisSizes.{Falls, sizes_fall}
 use Rattle.px_soundness.proofs.NotesFunctions.{StandFor, stand_for, many_fit}

@@ -96,8 +96,7 @@ module _ (Q : Program) (founded : IsWellFounded Q) (types : List Ty) (funs : Lis
       let left = forward e.left is_typed.T is_typed.left a.value a.count a.given in
       let right = forward e.right is_typed.T is_typed.right b.value b.count b.given in
       let one : a.value ≡ is.0 = (unique Q types funs rho [] (out-Term (term_instance sigma e.left)) a.value is.0 left.0 is.1 left.1 is.3).0 in
-      let two : b.value ≡ is.0 = (unique Q types funs rho [] (out-Term (term_instance sigma e.right)) b.value is.0 right.0 is.2 right.1 is.4).0 in
-      (
+      let two : b.value ≡ is.0 = (unique Q types funs rho [] (out-Term (term_instance sigma e.right)) b.value is.0 right.0 is.2 right.1 is.4).0 in (
         is.0,
         a.count,
         b.count,

@@ -39,9 +39,11 @@ own_mean_from : (types : List Ty) (funs rest : List Fun) (start : ℕ) → ((i :
 own_mean_from types funs [] start same = tt
 own_mean_from types funs (f ∷ rest) start same =
     let none : start + 0 ≡ start = omega arith in
-    let here : slice_get funs start ≡ Some f = ap (slice_get funs) (sym none) ∙ same 0 in
-    (here, own_mean_from types funs rest (start + 1)
-    (λ i. let one : (start + 1) + i ≡ start + suc i = omega arith in ap (slice_get funs) one ∙ same (suc i)))
+    let here : slice_get funs start ≡ Some f = ap (slice_get funs) (sym none) ∙ same 0 in (
+      here,
+      own_mean_from types funs rest (start + 1)
+          (λ i. let one : (start + 1) + i ≡ start + suc i = omega arith in ap (slice_get funs) one ∙ same (suc i)),
+    )
 
 -- own function variables stand for the functions
 pub own_mean : (types : List Ty) (funs : List Fun) → FunsMean types funs (own_functions (length funs)) funs
