@@ -126,7 +126,8 @@ module _ (typed : OpenClausesAreTyped) (Q : Program) (n : ℕ) (own : Clause) (o
       let sigma : Sigma = own_sigma own terms in
       let is_typed : IsTypedClause Q (around own.tparams own.funs own) own =
       typed Q a.founded n own a.obligation reference.Hypothesis own (hypothesis refl) in
-      let same : tys_instance types (own_types own.tparams) ≡ types = subst (λ (k : ℕ). tys_instance types (own_types k) ≡ types) a.count (own_types_are types) in
+      let same : tys_instance types (own_types own.tparams) ≡ types =
+      subst (λ (k : ℕ). tys_instance types (own_types k) ≡ types) a.count (own_types_are types) in
       let mean : FunsMean types funs (own_functions (length own.funs)) funs =
       subst (λ (k : ℕ). FunsMean types funs (own_functions k) funs) (many_fit Q types a.functions) (own_mean types funs) in
       let there : Reading Q types funs sigma own.tparams own.funs own (tys_instance types (own_types own.tparams)) funs =
@@ -155,7 +156,8 @@ module _ (typed : OpenClausesAreTyped) (Q : Program) (n : ℕ) (own : Clause) (o
 pub notes_are_sound : OpenClausesAreTyped → (Q : Program) (n : ℕ) (own : Clause) (on : List ℕ) (types : List Ty) (funs : List Fun) (size : ℕ) →
     Assumed Q n own on types funs size → (s : Sequent) (about : Ref) (sigma : Sigma) (children : List Sequent) → IsSequentOf Q own on s →
     Opens Q n s (row.Note about sigma) children → All (λ (child : Sequent). IsValidAt Q types funs child size) children → IsValidAt Q types funs s size
-notes_are_sound typed Q n own on types funs size a s about sigma children of (rows.note {own = other} {clause = clause} plain obligation is_open may fits are small) valid =
+notes_are_sound typed Q n own on types funs size a s about sigma children of
+    (rows.note {own = other} {clause = clause} plain obligation is_open may fits are small) valid =
     let same : other ≡ own = one_clause Q n other own obligation a.obligation in
     let open_here : IsOpen Q n own about clause = subst (λ (own : Clause). IsOpen Q n own about clause) same is_open in
     open_is_sound typed Q n own on types funs size a s of about clause open_here sigma plain fits

@@ -155,7 +155,8 @@ pub noted_is_sound : (Q : Program) → IsWellFounded Q → (types : List Ty) (fu
     (clause : Clause) → IsTypedClause Q (around tparams Fs clause) clause →
     HaveTypes Q anywhere s.context [] sigma.terms (tys_instance sigma.types clause.vars) → (inner : List Ty) (gs : List Fun) →
     Reading Q types funs sigma tparams Fs clause inner gs →
-    ((rho : List Value) → PresentSizes Q types funs rho s.frame.entries size → (vs : List Value) (count : ℕ) → MeanAll Q types funs rho [] sigma.terms vs count →
+    ((rho : List Value) → PresentSizes Q types funs rho s.frame.entries size → (vs : List Value) (count : ℕ) →
+    MeanAll Q types funs rho [] sigma.terms vs count →
     FitValues Q inner (live clause.vars) vs → AreTrueAt Q inner gs vs clause.premises → SomeIsTrueAt Q inner gs vs clause.alternatives) →
     All (λ (child : Sequent). IsValidAt Q types funs child size) (noted s clause sigma) → IsValidAt Q types funs s size
 noted_is_sound Q founded types funs size s context long ground fit sigma tparams Fs clause typed terms inner gs r truth valid = record {
