@@ -1,0 +1,6 @@
+pub mod FieldLemmas
+pub mod Opened
+pub mod PartSizes
+pub mod Results
+pub mod StepLemmas
+pub mod TurnLemmas

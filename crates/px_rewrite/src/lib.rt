@@ -4,6 +4,10 @@
 //! what becomes of the sequent, is left to whoever asks.
 #![tactic(auto)]
 
+mod arm_sizes;
+mod arms;
+mod opening;
 mod steps;
+mod turns;
 
 pub use steps::{StepEnd, step};

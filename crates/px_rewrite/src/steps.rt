@@ -1,11 +1,18 @@
 //! A step at a place of a term.
-ghost use Rattle.std.specs.Prelude.{◌≡◌, IfOk, MatchResult, Err};
+ghost use Rattle.std.specs.Prelude.{◌≡◌, ◌↔◌, ◌-◌, ◌^◌, min, IfOk, IsOkUnless, IsTrue, MatchResult, Err};
 ghost use Rattle.px_terms.specs.declared.term.Term.{Term as Tree};
+ghost use Rattle.px_terms.specs.limits.TheConstants.{SEQUENT_NODES};
+ghost use Rattle.px_terms.specs.Terms.{term_size};
+ghost use Rattle.px_terms.specs.Sequents.{IsSmall};
 ghost use Rattle.px_terms.specs.Steps.{Step};
 ghost use Rattle.px_rewrite.specs.declared.steps.StepEnd.TheVariants as ends;
 
+use crate::turns::turned;
 use px_descent::Checked;
-use px_terms::{Equation, Kind, NoMemory, Path, Term};
+use px_terms::limits::{SEQUENT_DEPTH, SEQUENT_NODES};
+use px_terms::{
+    Equation, Kind, NoMemory, Path, Program, Term, at_path, depth, replace_at, size,
+};
 use std::alloc::{AllocError, Global};
 
 /// Why there is no step.
@@ -37,18 +44,59 @@ impl From<AllocError> for StepEnd {
 /// the term has no such place; no such call, match, comparison or side of a fact stands there; or the result would have
 /// more than SEQUENT_NODES nodes or more than SEQUENT_DEPTH levels. The facts are looked at in place.
 ///
-/// It takes memory for the result alone; its calls nest as deep as the terms.
+/// It takes memory for the part and for the result, whose size is known before, and where a call is unfolded for a copy of its
+/// arguments; its calls nest as deep as the terms.
 pub fn step(
     alloc: Global,
     checked: &Checked,
     facts: &[Equation],
     term: &Term,
-    at: (&Path, Kind),
+    path: &Path,
+    kind: Kind,
 ) -> Result<Term, StepEnd>
-    ensures ok { IfOk result (λ t. Step checked.now facts.now term.now at.0.now at.1 t) }
+    ensures ok { IfOk result (λ t. Step checked.now facts.now term.now path.now kind t) }
     // Where there is a step, it is the answer, besides want of memory.
-    ensures only { (t : Tree) → Step checked.now facts.now term.now at.0.now at.1 t → MatchResult result (λ found. found ≡ t) (λ end. end ≡ StepEnd.NoMemory) }
-    ensures no_step { result ≡ Err StepEnd.NoStep → (t : Tree) → ¬ Step checked.now facts.now term.now at.0.now at.1 t }
+    ensures only { (t : Tree) → Step checked.now facts.now term.now path.now kind t → MatchResult result (λ found. found ≡ t) (λ end. end ≡ StepEnd.NoMemory) }
+    ensures no_step { result ≡ Err StepEnd.NoStep → (t : Tree) → ¬ Step checked.now facts.now term.now path.now kind t }
 {
-    Err(StepEnd::NoMemory)
+    stepped(alloc, checked.program(), facts, term, path, kind)
+}
+
+/// What the term becomes. NoStep where there is no such step, or where its result is over the limits.
+fn stepped(
+    alloc: Global,
+    program: &Program,
+    facts: &[Equation],
+    term: &Term,
+    path: &Path,
+    kind: Kind,
+) -> Result<Term, StepEnd>
+    ensures ok { IfOk result (λ t. Step program.now facts.now term.now path.now kind t) }
+    ensures only { (t : Tree) → Step program.now facts.now term.now path.now kind t → IsOkUnless result StepEnd.NoMemory }
+{
+    let Some(part) = at_path(term, path) else {
+        return Err(StepEnd::NoStep);
+    };
+    let becomes = turned(alloc, program, facts, part, kind, room_in(term, part))?;
+    let Some(whole) = replace_at(alloc, term, path, &becomes)? else {
+        return Err(StepEnd::NoStep);
+    };
+    if !is_small(&whole) {
+        return Err(StepEnd::NoStep);
+    }
+    Ok(whole)
+}
+
+/// How many nodes may stand in place of the part, so that the term stays within the limits.
+fn room_in(term: &Term, part: &Term) -> u64
+    ensures { result ≡ SEQUENT_NODES - (min (term_size term.now) (2 ^ 64 - 1) - min (term_size part.now) (2 ^ 64 - 1)) }
+{
+    SEQUENT_NODES.saturating_sub(size(term).saturating_sub(size(part)))
+}
+
+/// The term is within the limits of a sequent.
+fn is_small(term: &Term) -> bool
+    ensures { IsTrue result ↔ IsSmall term.now }
+{
+    size(term) <= SEQUENT_NODES && depth(term) <= SEQUENT_DEPTH
 }

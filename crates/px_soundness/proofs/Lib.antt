@@ -1,6 +1,12 @@
+pub mod CasesAreSound
+pub mod ClausesTyped
+pub mod FirstTyped
 pub mod Forward
 pub mod Found
 pub mod HypothesisSizes
+pub mod KeptArms
+pub mod KeptFunctions
+pub mod KeptRows
 pub mod NotesAreSound
 pub mod NotesFunctions
 pub mod NotesImplied
@@ -10,7 +16,14 @@ pub mod NotesProperties
 pub mod NotesReadings
 pub mod ObligationsHold
 pub mod OneClause
+pub mod Openings
+pub mod OpeningsOfClauses
 pub mod PlainRowsAreSound
+pub mod RowsAreSound
+pub mod RowsChanges
+pub mod RowsInstances
+pub mod RowsScopes
+pub mod RowsTyped
 pub mod Sides
 pub mod Stacks
 pub mod StepsKeepTypes

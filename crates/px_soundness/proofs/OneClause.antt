@@ -39,7 +39,7 @@ not_two ys a b y e =
     not_one ys a b one
 
 -- a list that ends in the same item twice has one front and one such item
-same_ends : {A : Type 0} (xs ys : List A) (a b : A) → xs ++ a ∷ a ∷ [] ≡ ys ++ b ∷ b ∷ [] → (xs ≡ ys) × (a ≡ b)
+pub same_ends : {A : Type 0} (xs ys : List A) (a b : A) → xs ++ a ∷ a ∷ [] ≡ ys ++ b ∷ b ∷ [] → (xs ≡ ys) × (a ≡ b)
 same_ends [] [] a b e = let h : a ∷ a ∷ [] ≡ b ∷ b ∷ [] = e in (refl, cc)
 same_ends [] (y ∷ ys) a b e = absurd (not_two ys a b y e)
 same_ends (x ∷ xs) [] a b e = absurd (not_two xs b a x (sym e))
@@ -74,7 +74,7 @@ one_type P n types a b T U x y =
     let same : x.D ≡ y.D = some_is x.D y.D (slice_get P.defs n) x.found y.found in
     (x.params_are ∙ ap (λ (D : definition.Def). tys_instance types D.params) same ∙ sym y.params_are, x.result_is ∙ ap (λ (D : definition.Def). ty_instance types D.result) same ∙ sym y.result_is)
 
-same_subject : (s t : Subject) → s.function ≡ t.function → s.given ≡ t.given → s.leading ≡ t.leading → s.last ≡ t.last → s.result ≡ t.result → s ≡ t
+pub same_subject : (s t : Subject) → s.function ≡ t.function → s.given ≡ t.given → s.leading ≡ t.leading → s.last ≡ t.last → s.result ≡ t.result → s ≡ t
 same_subject s t function given leading last result = λ i. record { function = function i; given = given i; leading = leading i; last = last i; result = result i }
 
 -- a definition that is given some functions is one subject
@@ -114,7 +114,7 @@ pub property_rests_on : (P : Program) (n : ℕ) (p : Prop) (clause : Clause) →
 property_rests_on P n p clause is = rests_on P [] (Def n) p clause is
 
 -- a property of a definition has one clause
-one_property : (P : Program) (n : ℕ) (p : Prop) (a b : Clause) → OfProperty P n p a → OfProperty P n p b → a ≡ b
+pub one_property : (P : Program) (n : ℕ) (p : Prop) (a b : Clause) → OfProperty P n p a → OfProperty P n p b → a ≡ b
 one_property P n p a b x y =
     let same : x.D ≡ y.D = some_is x.D y.D (slice_get P.defs n) x.found y.found in
     let here : IsOwnSubject P n y.D x.s = subst (λ (D : definition.Def). IsOwnSubject P n D x.s) same x.subject in

@@ -13,25 +13,21 @@ pub fn steps_keep_values()
 
 /// The first sequent of an obligation is typed.
 pub fn first_sequents_are_typed()
-    requires { FirstSequentsAreTyped }
     ensures { FirstSequentsAreTyped }
 {}
 
 /// What a row leaves of a typed sequent is typed.
 pub fn rows_keep_typing()
-    requires { RowsKeepTyping }
     ensures { RowsKeepTyping }
 {}
 
 /// What is open to an obligation is typed.
 pub fn open_clauses_are_typed()
-    requires { OpenClausesAreTyped }
     ensures { OpenClausesAreTyped }
 {}
 
 /// A row that applies to a typed sequent applies to it in each extension of the program, and leaves the same.
 pub fn rows_are_kept()
-    requires { RowsAreKept }
     ensures { RowsAreKept }
 {}
 

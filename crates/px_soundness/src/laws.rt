@@ -6,7 +6,6 @@ use px_totality::extensions_keep;
 
 /// In a program that is typed and descends a row leaves at most one list of children of a sequent.
 pub fn one_opening()
-    requires { OneOpening }
     ensures { OneOpening }
 {}
 
