@@ -3,9 +3,17 @@ pub mod ClausesTyped
 pub mod FirstTyped
 pub mod Forward
 pub mod Found
+pub mod HypothesisSizes
 pub mod KeptArms
 pub mod KeptFunctions
 pub mod KeptRows
+pub mod NotesAreSound
+pub mod NotesFunctions
+pub mod NotesImplied
+pub mod NotesMoves
+pub mod NotesNoted
+pub mod NotesProperties
+pub mod NotesReadings
 pub mod ObligationsHold
 pub mod OneClause
 pub mod Openings

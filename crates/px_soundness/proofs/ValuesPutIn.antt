@@ -60,36 +60,22 @@ chosen_is_arm arms (Value-F.Con d k fields) arm vs e = by_item (slice_get arms k
         let same : t ≡ arm = ap (λ (p : Term × List Value). p.0) pair in
         record { number = k; at = is ∙ ap (λ (x : Term). Some x) same }
 
--- what was put in: types and functions of a call, and terms with their values
-module _ (Q : Program) (place : Place) (context : Context) (types : List Ty) (funs : List Fun) (rho : List Value) (sigma : Sigma)
-    (long : length sigma.types ≡ context.tparams) (gs : List Fun) (stand : FunsMean types funs sigma.funs gs) (vs : List Value) (a : ℕ)
+-- What a function of this context stands for inside, its instance stands for outside.
+pub record FunctionsStand (Q : Program) (context : Context) (types inner : List Ty) (funs gs : List Fun) (sigma : Sigma) : Type 0 where
+  pub at : (f : Fun) (takes : List FnType) (params : List Ty) (T : Ty) → IsFunction Q context f takes params T → (g : Fun) → FunMeans inner gs f g →
+      FunMeans types funs (fun_instance sigma.types sigma.funs f) g
+
+-- what was put in: types and functions, as they stand inside and outside, and terms with their values
+module _ (Q : Program) (place : Place) (context : Context) (types : List Ty) (funs : List Fun) (rho : List Value) (sigma : Sigma) (inner : List Ty)
+    (gs : List Fun) (stand : FunctionsStand Q context types inner funs gs sigma) (vs : List Value) (a : ℕ)
     (all : MeanAll Q types funs rho [] sigma.terms vs a) where
-  abbrev inner : List Ty
-  inner = tys_instance types sigma.types
-
-  -- types put in twice are put in once
-  twice : {ts : List Ty} → AreTypes Q context.tparams ts → tys_instance types (tys_instance sigma.types ts) ≡ tys_instance inner ts
-  twice {ts} are = instances_twice Q types sigma.types (subst (λ (k : ℕ). AreTypes Q k ts) (sym long) are)
-
-  -- what a function stands for inside is what its instance stands for outside
-  fun_kept : {f : Fun} {takes : List FnType} {params : List Ty} {T : Ty} → IsFunction Q context f takes params T → (g : Fun) →
-      FunMeans inner gs f g → FunMeans types funs (fun_instance sigma.types sigma.funs f) g
-  fun_kept (typing.of_definition {n = n} {types = ts} found many are takes_are params_are result_is) g means =
-      (λ i. Some (record { head = Def n; types = twice are i })) ∙ means
-  fun_kept (typing.at_most is) g means = means
-  fun_kept (typing.equal is) g means = means
-  fun_kept (typing.of_variable {n = n} found params_are result_is) g means =
-      let there = function_at_value types funs sigma.funs gs n g stand means in
-      let other : Fun = fun_with_types sigma.types (record { head = FnVar n; types = [] }) in
-      let is : there.0 ≡ unwrap_or (slice_get sigma.funs n) other = sym (ap (λ o. unwrap_or o other) there.1) in
-      subst (λ (f : Fun). FunMeans types funs f g) is there.2
-
   funs_kept : {fs : List Fun} {takes : List FnType} → AreArguments Q place context fs takes → (hs : List Fun) → FunsMean inner gs fs hs →
       FunsMean types funs (map (fun_instance sigma.types sigma.funs) fs) hs
   funs_kept typing.none [] mean = tt
   funs_kept typing.none (h ∷ hs) mean = absurd mean
   funs_kept (typing.more is are) [] mean = absurd mean
-  funs_kept (typing.more is are) (h ∷ hs) mean = (fun_kept is.function h mean.0, funs_kept are hs mean.1)
+  funs_kept (typing.more {f = f} {wanted = wanted} is are) (h ∷ hs) mean =
+      (stand.at f [] wanted.params wanted.result is.function h mean.0, funs_kept are hs mean.1)
 
   -- a layer with the terms put in
   abbrev instance_of : Term-F Term → Term
@@ -128,7 +114,7 @@ module _ (Q : Program) (place : Place) (context : Context) (types : List Ty) (fu
         layer_means Q types funs rho inside (Con d k (tys_instance sigma.types ts) (map (term_instance sigma) fields))
         (Term-F.Con d k (tys_instance sigma.types ts) (map (term_instance sigma) fields)) v there.0
         (outs-Con d k (tys_instance sigma.types ts) (map (term_instance sigma) fields)) (con there.1 on.is)
-    kept (typing.call {f = f} {funs = fs} {args = args} function may small met passed have) inside v c means =
+    kept (typing.call {f = f} {funs = fs} {args = args} {takes = takes} {params = params} {T = T} function may small met passed have) inside v c means =
         let on : OfCall Q inner gs vs inside f fs args v c = rests_on Q inner gs vs inside (Term-F.Call f fs args) v c means in
         let there : HaveMeanings Q types funs rho inside (map (term_instance sigma) args) on.vs = all_kept have inside on.vs on.a on.all in
         let g : Fun = fun_instance sigma.types sigma.funs f in
@@ -136,7 +122,7 @@ module _ (Q : Program) (place : Place) (context : Context) (types : List Ty) (fu
         layer_means Q types funs rho inside (Call g hs (map (term_instance sigma) args)) (Term-F.Call g hs (map (term_instance sigma) args)) v
         (there.0 + on.b)
         (outs-Call g hs (map (term_instance sigma) args))
-        (call there.1 (fun_kept function on.g on.fun_means) (funs_kept passed on.gs on.funs_mean) on.gives refl)
+        (call there.1 (stand.at f takes params T function on.g on.fun_means) (funs_kept passed on.gs on.funs_mean) on.gives refl)
     kept (typing.choose {on = on} {d = d} {types = ts} {arms = arms} scrutinee is found arms_typed) inside v c means =
         let rest : OfMatch Q inner gs vs inside on arms v c = rests_on Q inner gs vs inside (Term-F.Match on d ts arms) v c means in
         let m : HasMeaning Q types funs rho inside (term_instance sigma on) rest.u =
@@ -176,6 +162,39 @@ module _ (Q : Program) (place : Place) (context : Context) (types : List Ty) (fu
     arm_kept (typing.arm met has have) (suc n) arm at inside v c means = arm_kept have n arm at inside v c means
 
   -- the instance of a typed term has the value that the term has under what is put in
-  pub instance_keeps : (t : Term) (T : Ty) → HasTypeLayer Q place context [] (out-Term t) T → (v : Value) (c : ℕ) →
+  pub put_in_keeps : (t : Term) (T : Ty) → HasTypeLayer Q place context [] (out-Term t) T → (v : Value) (c : ℕ) →
       MeansOf Q inner gs vs [] (out-Term t) v c → HasMeaning Q types funs rho [] (term_instance sigma t) v
-  instance_keeps t T has v c means = moved [] t v (kept has [] v c means)
+  put_in_keeps t T has v c means = moved [] t v (kept has [] v c means)
+
+-- types and functions that are put in for all type and function variables of the context
+module _ (Q : Program) (context : Context) (types : List Ty) (funs : List Fun) (sigma : Sigma) (long : length sigma.types ≡ context.tparams)
+    (gs : List Fun) (mean : FunsMean types funs sigma.funs gs) where
+  -- types put in twice are put in once
+  twice : {ts : List Ty} → AreTypes Q context.tparams ts →
+      tys_instance types (tys_instance sigma.types ts) ≡ tys_instance (tys_instance types sigma.types) ts
+  twice {ts} are = instances_twice Q types sigma.types (subst (λ (k : ℕ). AreTypes Q k ts) (sym long) are)
+
+  fun_kept : {f : Fun} {takes : List FnType} {params : List Ty} {T : Ty} → IsFunction Q context f takes params T → (g : Fun) →
+      FunMeans (tys_instance types sigma.types) gs f g → FunMeans types funs (fun_instance sigma.types sigma.funs f) g
+  fun_kept (typing.of_definition {n = n} {types = ts} found many are takes_are params_are result_is) g means =
+      (λ i. Some (record { head = Def n; types = twice are i })) ∙ means
+  fun_kept (typing.at_most is) g means = means
+  fun_kept (typing.equal is) g means = means
+  fun_kept (typing.of_variable {n = n} found params_are result_is) g means =
+      let there = function_at_value types funs sigma.funs gs n g mean means in
+      let other : Fun = fun_with_types sigma.types (record { head = FnVar n; types = [] }) in
+      let is : there.0 ≡ unwrap_or (slice_get sigma.funs n) other = sym (ap (λ o. unwrap_or o other) there.1) in
+      subst (λ (f : Fun). FunMeans types funs f g) is there.2
+
+  -- what a function stands for inside is what its instance stands for outside
+  pub functions_stand : FunctionsStand Q context types (tys_instance types sigma.types) funs gs sigma
+  functions_stand = record { at = λ f takes params T function g means. fun_kept function g means }
+
+-- the instance of a typed term has the value that the term has under the types and functions that are put in for all variables
+pub instance_keeps : (Q : Program) (place : Place) (context : Context) (types : List Ty) (funs : List Fun) (rho : List Value) (sigma : Sigma) →
+    length sigma.types ≡ context.tparams → (gs : List Fun) → FunsMean types funs sigma.funs gs → (vs : List Value) (a : ℕ) →
+    MeanAll Q types funs rho [] sigma.terms vs a → (t : Term) (T : Ty) → HasTypeLayer Q place context [] (out-Term t) T → (v : Value) (c : ℕ) →
+    MeansOf Q (tys_instance types sigma.types) gs vs [] (out-Term t) v c → HasMeaning Q types funs rho [] (term_instance sigma t) v
+instance_keeps Q place context types funs rho sigma long gs mean vs a all t T has v c means =
+    put_in_keeps Q place context types funs rho sigma (tys_instance types sigma.types) gs (functions_stand Q context types funs sigma long gs mean) vs a all
+    t T has v c means
