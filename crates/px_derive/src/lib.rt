@@ -25,6 +25,6 @@ mod types;
 pub use laws::{no_line_feed, one_list, one_row};
 pub use line_end::LineEnd;
 pub use lines::{Piece, next_line};
-pub use reading::read_line;
 pub use px_terms::{Row, Tree};
+pub use reading::read_line;
 pub use trees::print_tree;

@@ -6,8 +6,8 @@ ghost use Rattle.px_drive.specs.Laws.{OneSource, OneSourceFault, NeverBoth, Scop
 use px_descent::{one_first_stuck, stuck_excludes_descent};
 use px_lexer::one_list;
 use px_parser::{one_tree, trees_are_fine};
-use px_scope::{each_name_is_listed, fault_is_first, names_rise, numberings_fit, one_numbering};
 use px_plain::derivations_are_sound;
+use px_scope::{each_name_is_listed, fault_is_first, names_rise, numberings_fit, one_numbering};
 use px_types::{never_typed_and_broken, one_first_fault, one_program};
 
 /// A text is at most one program.

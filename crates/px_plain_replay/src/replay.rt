@@ -17,9 +17,9 @@ use crate::lines::{RowEnd, read_row};
 use crate::opened::Open;
 use crate::rows::open_sequent;
 use px_descent::Checked;
-use px_props::ClauseEnd;
 use px_plain::{derivations_are_sound, one_clause, one_opening, stack_is_tree};
-use px_terms::{Declared, NoMemory, Program, PlainRow};
+use px_props::ClauseEnd;
+use px_terms::{Declared, NoMemory, PlainRow, Program};
 use sqlite_items::Items;
 use std::alloc::{AllocError, Global};
 

@@ -15,7 +15,7 @@ use crate::opened::Open;
 use crate::replay::ReplayEnd;
 use crate::small::is_within_limits;
 use crate::steps::stepped;
-use px_terms::{Kind, NoMemory, Path, Program, PlainRow, Sequent, Side, Target, Term, same_term};
+use px_terms::{Kind, NoMemory, Path, PlainRow, Program, Sequent, Side, Target, Term, same_term};
 use sqlite_items::{Items, at};
 use std::alloc::Global;
 

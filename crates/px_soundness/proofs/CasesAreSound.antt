@@ -1,5 +1,5 @@
 -- The cases of a variable and of a term: a value of a datatype is one of its constructors on values of the fields' types.
-use Rattle.std.proofs.Common.{◌≡◌, ℕ, zero, suc, ◌+◌, ◌<◌, List, [], ◌∷◌, ◌++◌, length, map, slice_get, slice_set, Option, Some, None, refl, sym, ap, ◌∙◌, subst, arith}
+use Rattle.std.proofs.Common.{◌≡◌, ℕ, zero, suc, ◌+◌, List, [], ◌∷◌, ◌++◌, length, map, slice_get, slice_set, Option, Some, None, refl, sym, ap, ◌∙◌, subst, arith}
 use Rattle.std.specs.Prelude.{All}
 use Rattle.std.proofs.lemmas.List.{map-id}
 use Rattle.px_terms.specs.declared.types.Ty.{Ty}
@@ -8,9 +8,8 @@ use Rattle.px_terms.specs.declared.types.Fun.{Fun}
 use Rattle.px_terms.specs.declared.term.Term.{Term, out-Term}
 use Rattle.px_terms.specs.declared.term.Term.TheOpen.{Term-F}
 use Rattle.px_terms.specs.declared.term.Term.TheVariants as term
-use Rattle.px_terms.specs.declared.term.Value.{Value, out-Value}
+use Rattle.px_terms.specs.declared.term.Value.{Value}
 use Rattle.px_terms.specs.declared.term.Value.TheVariants as value
-use Rattle.px_terms.specs.declared.term.Value.TheOpen.{Value-F}
 use Rattle.px_terms.specs.declared.term.Value.TheViews.{roll-Value, roll-out-Value}
 use Rattle.px_terms.specs.declared.clause.Clause.{Clause}
 use Rattle.px_terms.specs.declared.clause.Equation.{Equation}
@@ -21,7 +20,6 @@ use Rattle.px_terms.specs.declared.sequent.Present.{Present}
 use Rattle.px_terms.specs.declared.sequent.Sequent.{Sequent}
 use Rattle.px_terms.specs.Types.{ty_instance, tys_instance, numbers_from}
 use Rattle.px_terms.specs.TreeEquations.{ty_instance-Con}
-use Rattle.px_terms.specs.Programs.{constructor_at}
 use Rattle.px_terms.specs.Values.{IsIn, AreIn}
 use Rattle.px_terms.specs.Values as values
 use Rattle.px_terms.specs.Meaning.{MeansOf, MeanAll, Means, SameValue}
@@ -37,12 +35,12 @@ use Rattle.px_terms.specs.Extending.{FitValues}
 use Rattle.px_terms.specs.Extending as fitting
 use Rattle.px_terms.specs.Rows.{AreCases, AreTermCases, case_of, cases_from, split_of, splits_from, fresh_constructor}
 use Rattle.px_totality.specs.Laws.{EachTermHasValue}
-use Rattle.px_totality.proofs.TypesOfTerms.{all_at, stands_in, constructor_of, data_is_typed, data_type, fields_are_types, type_of}
-use Rattle.px_totality.proofs.Valued.{IsBuilt, built}
+use Rattle.px_totality.proofs.TypesOfTerms.{all_at, constructor_of, data_is_typed, data_type, fields_are_types, type_of}
+use Rattle.px_totality.proofs.Valued.{built}
 use Rattle.px_totality.proofs.Instances.{instances_twice}
-use Rattle.px_soundness.specs.Validity.{IsAssignment, PresentSizes, IsValidAt, IsSequentOf}
+use Rattle.px_soundness.specs.Validity.{PresentSizes, IsValidAt, IsSequentOf}
 use Rattle.px_soundness.specs.Argument.{Assumed}
-use Rattle.px_soundness.proofs.Forward.{put_keeps, slice_get_longer}
+use Rattle.px_soundness.proofs.Forward.{put_keeps}
 use Rattle.px_soundness.proofs.PlainRowsAreSound.{assignment}
 use Rattle.px_soundness.proofs.Sides.{each_has_sides, is_context, value_of}
 use Rattle.px_soundness.proofs.Truths.{HaveValues, all_append, all_true_on, some_true_back, sizes_on}
@@ -185,17 +183,17 @@ module _ (has_value : EachTermHasValue) (Q : Program) (n : ℕ) (own : Clause) (
       let forward : (t : Term) (w : Value) (a : ℕ) → Means Q types funs rho t w a → (e : ℕ) × Means Q types funs (rho ++ us) (term_put v by t) w e = λ t w a means_t. put_keeps Q types funs rho us v by (value.Con d k us) at means [] t w a means_t in
       let fits = fit_more Q types (slice_set s.context.vars v None) rho (tys_instance args c.fields) us (fit_gone Q types s.context.vars rho v fit) inside in
       let child = valid.some (rho ++ us) fits
-        (sizes_on Q types funs rho (rho ++ us) (term_put v by) forward (equation_put v by) (λ e. refl) (λ e. refl) (λ (p : Present). record { variable = p.variable; term = term_put v by p.term }) (λ p. refl) s.frame.entries size sizes)
-        (all_true_on Q types funs rho (rho ++ us) (term_put v by) forward (equation_put v by) (λ e. refl) (λ e. refl) s.facts facts) in
+      (sizes_on Q types funs rho (rho ++ us) (term_put v by) forward (equation_put v by) (λ e. refl) (λ e. refl) (λ (p : Present). record { variable = p.variable; term = term_put v by p.term }) (λ p. refl) s.frame.entries size sizes)
+      (all_true_on Q types funs rho (rho ++ us) (term_put v by) forward (equation_put v by) (λ e. refl) (λ e. refl) s.facts facts) in
       some_true_back Q types funs rho (rho ++ us) (term_put v by) forward (equation_put v by) (λ e. refl) (λ e. refl) s.alternatives (sides rho fit) child
 
   pub case_is_sound : (v : ℕ) (children : List Sequent) → AreCases Q s v children → All (λ (child : Sequent). IsValidAt Q types funs child size) children → IsValidAt Q types funs s size
   case_is_sound v children cases valid = record {
     some = λ rho fit sizes facts.
-      let there = fit_at Q types s.context.vars rho v (type.Con cases.datatype cases.args) fit cases.live_at in
-      let one = opened cases.datatype cases.args cases.declared there.u cases.stands (is.typed.context.vars v (type.Con cases.datatype cases.args) cases.live_at) there.fits in
-      let child : slice_get children one.k ≡ Some (case_of s v cases.datatype cases.args one.k one.c) = ap (λ (cs : List Sequent). slice_get cs one.k) cases.are ∙ case_here s v cases.datatype cases.args cases.declared.cons one.k one.c one.stands in
-      one_case v cases.datatype one.k cases.args one.c one.us one.many one.fields_in rho (there.at ∙ ap (λ (u : Value). Some u) one.value_is) fit sizes facts
+        let there = fit_at Q types s.context.vars rho v (type.Con cases.datatype cases.args) fit cases.live_at in
+        let one = opened cases.datatype cases.args cases.declared there.u cases.stands (is.typed.context.vars v (type.Con cases.datatype cases.args) cases.live_at) there.fits in
+        let child : slice_get children one.k ≡ Some (case_of s v cases.datatype cases.args one.k one.c) = ap (λ (cs : List Sequent). slice_get cs one.k) cases.are ∙ case_here s v cases.datatype cases.args cases.declared.cons one.k one.c one.stands in
+        one_case v cases.datatype one.k cases.args one.c one.us one.many one.fields_in rho (there.at ∙ ap (λ (u : Value). Some u) one.value_is) fit sizes facts
         (all_at (λ (x : Sequent). IsValidAt Q types funs x size) children one.k (case_of s v cases.datatype cases.args one.k one.c) valid child);
   }
 
@@ -216,11 +214,11 @@ module _ (has_value : EachTermHasValue) (Q : Program) (n : ℕ) (own : Clause) (
   pub split_is_sound : (t : Term) (children : List Sequent) → AreTermCases Q s t children → All (λ (child : Sequent). IsValidAt Q types funs child size) children → IsValidAt Q types funs s size
   split_is_sound t children cases valid = record {
     some = λ rho fit sizes facts.
-      let given = assignment Q n own on types funs size assumed s is rho fit in
-      let there = value_of has_value Q assumed.founded s.context is.typed.context types funs rho given t (type.Con cases.datatype cases.args) cases.typed in
-      let is_type : IsType Q s.context.tparams (type.Con cases.datatype cases.args) = type_of Q assumed.founded.typed anywhere s.context (is_context Q s.context is.typed.context) cases.typed typing.none in
-      let one = opened cases.datatype cases.args cases.declared there.value cases.stands is_type there.in_type in
-      let child : slice_get children one.k ≡ Some (split_of s t cases.datatype cases.args one.k one.c) = ap (λ (cs : List Sequent). slice_get cs one.k) cases.are ∙ split_here s t cases.datatype cases.args cases.declared.cons one.k one.c one.stands in
-      one_split t there.count cases.datatype one.k cases.args one.c one.us one.many one.fields_in rho (subst (λ (u : Value). Means Q types funs rho t u there.count) one.value_is there.given) fit sizes facts
+        let given = assignment Q n own on types funs size assumed s is rho fit in
+        let there = value_of has_value Q assumed.founded s.context is.typed.context types funs rho given t (type.Con cases.datatype cases.args) cases.typed in
+        let is_type : IsType Q s.context.tparams (type.Con cases.datatype cases.args) = type_of Q assumed.founded.typed anywhere s.context (is_context Q s.context is.typed.context) cases.typed typing.none in
+        let one = opened cases.datatype cases.args cases.declared there.value cases.stands is_type there.in_type in
+        let child : slice_get children one.k ≡ Some (split_of s t cases.datatype cases.args one.k one.c) = ap (λ (cs : List Sequent). slice_get cs one.k) cases.are ∙ split_here s t cases.datatype cases.args cases.declared.cons one.k one.c one.stands in
+        one_split t there.count cases.datatype one.k cases.args one.c one.us one.many one.fields_in rho (subst (λ (u : Value). Means Q types funs rho t u there.count) one.value_is there.given) fit sizes facts
         (all_at (λ (x : Sequent). IsValidAt Q types funs x size) children one.k (split_of s t cases.datatype cases.args one.k one.c) valid child);
   }

@@ -1,6 +1,6 @@
 -- Where trees derive the obligations of a program, each of them holds in every extension: the obligations in order, and for each the
 -- sums of sizes in order.
-use Rattle.std.proofs.Common.{◌≡◌, ℕ, zero, suc, ◌+◌, ◌<◌, List, [], ◌∷◌, length, map, slice_get, Some, None, refl, sym, ap, subst, ◌∙◌, arith}
+use Rattle.std.proofs.Common.{◌≡◌, ℕ, zero, suc, ◌+◌, ◌<◌, List, [], ◌∷◌, length, slice_get, Some, None, refl, sym, subst, arith}
 use Rattle.std.specs.Prelude.{All}
 use Rattle.std.proofs.lemmas.List.Elements.{All-head, All-tail}
 use Rattle.px_terms.specs.declared.types.Ty.{Ty}
@@ -12,7 +12,6 @@ use Rattle.px_terms.specs.declared.term.Value.{Value}
 use Rattle.px_terms.specs.declared.clause.Clause.{Clause}
 use Rattle.px_terms.specs.declared.program.Program.{Program}
 use Rattle.px_terms.specs.declared.row.Tree.{Tree}
-use Rattle.px_terms.specs.declared.sequent.Present.{Present}
 use Rattle.px_terms.specs.Types.{tys_instance}
 use Rattle.px_terms.specs.Values.{AreIn}
 use Rattle.px_terms.specs.Values as values
@@ -22,7 +21,7 @@ use Rattle.px_terms.specs.Extending.{IsWellFounded, IsExtension, FunctionsFit, F
 use Rattle.px_terms.specs.Extending as fitting
 use Rattle.px_terms.specs.Obligations.{IsObligation, AllHoldInExtensions}
 use Rattle.px_terms.specs.Sequents.{own_frame}
-use Rattle.px_terms.specs.Derivations.{IsDerivation, DerivesObligation, AreFrameVariables, begins_with}
+use Rattle.px_terms.specs.Derivations.{IsDerivation, DerivesObligation, begins_with}
 use Rattle.px_totality.specs.Laws.{ExtensionsKeep}
 use Rattle.px_soundness.specs.Validity.{IsValidAt, PresentSizes, value_size}
 use Rattle.px_soundness.specs.Validity as validity
@@ -82,17 +81,17 @@ module _ (first : FirstSequentsAreTyped) (keep : RowsKeepTyping) (kept : RowsAre
       valid_below (suc bound) size below =
           let assumed : Assumed Q n derives.clause tree.on types funs size = record { founded = extends.founded; obligation = there; variables = derives.on; count = count; ground = ground; functions = fit; lower = lower; smaller = λ m smaller. valid_below bound m (omega (arith, below, smaller)) } in
           tree_is_sound keep kept sound P Q founded extends n derives.clause derives.obligation tree.on types funs size assumed (begins_with derives.clause tree.on) derives.root
-            (first P founded n derives.clause derives.obligation tree.on derives.on)
-            (first Q extends.founded n derives.clause there tree.on derives.on)
-            derives.derives
+          (first P founded n derives.clause derives.obligation tree.on derives.on)
+          (first Q extends.founded n derives.clause there tree.on derives.on)
+          derives.derives
 
       -- the clause is true of all values
       true_of_all : IsTrueOfAll Q types funs derives.clause
       true_of_all = record {
         at = λ rho are premises.
-          let many = as_many Q types derives.clause.vars rho are in
-          let sizes = own_sizes Q types funs rho tree.on (subst (λ (k : ℕ). All (λ (v : ℕ). v < k) tree.on) many derives.on.within) in
-          (valid_below (suc sizes.0) sizes.0 (omega arith)).some rho (fit_first Q types derives.clause.vars rho are) sizes.1 premises;
+            let many = as_many Q types derives.clause.vars rho are in
+            let sizes = own_sizes Q types funs rho tree.on (subst (λ (k : ℕ). All (λ (v : ℕ). v < k) tree.on) many derives.on.within) in
+            (valid_below (suc sizes.0) sizes.0 (omega arith)).some rho (fit_first Q types derives.clause.vars rho are) sizes.1 premises;
       }
 
     -- the obligations below a bound hold
@@ -110,7 +109,7 @@ module _ (first : FirstSequentsAreTyped) (keep : RowsKeepTyping) (kept : RowsAre
   all_hold = record {
     each = λ n clause obligation. record {
       in_each = λ Q extends.
-        holds_below Q extends (suc n) n (omega arith) (within P.declared n obligation.declared obligation.number) clause (extensions_keep.obligation P Q extends n clause obligation);
+          holds_below Q extends (suc n) n (omega arith) (within P.declared n obligation.declared obligation.number) clause (extensions_keep.obligation P Q extends n clause obligation);
     };
   }
 

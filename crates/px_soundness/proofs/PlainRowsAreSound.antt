@@ -1,7 +1,5 @@
 -- The rows that leave the variables as they are: equal sides, a step, a clash, and the fields of one constructor.
-use Rattle.std.proofs.Common.{◌≡◌, ◌≢◌, ℕ, List, [], ◌∷◌, ◌++◌, slice_get, Some, refl, sym, ap, ◌∙◌, subst}
-use Rattle.std.specs.Prelude.{All}
-use Rattle.std.proofs.lemmas.List.Elements.{All-head}
+use Rattle.std.proofs.Common.{◌≡◌, ℕ, List, [], slice_get, Some, sym, ap, ◌∙◌, subst}
 use Rattle.px_terms.specs.declared.types.Ty.{Ty}
 use Rattle.px_terms.specs.declared.types.FnType.{FnType}
 use Rattle.px_terms.specs.declared.types.Fun.{Fun}
@@ -21,15 +19,15 @@ use Rattle.px_terms.specs.TreeEdits.{with_side}
 use Rattle.px_terms.specs.Meaning.{MeansOf, MeanAll, Means, SameValue}
 use Rattle.px_terms.specs.Meaning as meaning
 use Rattle.px_terms.specs.Typing.{anywhere, HasType}
-use Rattle.px_terms.specs.Holding.{IsTrueAt, AreTrueAt, SomeIsTrueAt}
-use Rattle.px_terms.specs.Extending.{IsWellFounded, FunctionsFit, FitValues}
+use Rattle.px_terms.specs.Holding.{IsTrueAt, AreTrueAt}
+use Rattle.px_terms.specs.Extending.{FunctionsFit, FitValues}
 use Rattle.px_terms.specs.Sequents.{side_of, with_alternative_side, with_fact_side}
 use Rattle.px_terms.specs.TypedSequents.{IsTypedEquation}
 use Rattle.px_terms.specs.Steps.{Step}
 use Rattle.px_terms.specs.Rows.{HeadsClash, constructors, literals, HaveOneHead, IsInjected, pairs_equal, with_facts}
 use Rattle.px_totality.specs.Laws.{EachTermHasValue}
 use Rattle.px_totality.proofs.TypesOfTerms.{all_at}
-use Rattle.px_totality.proofs.Unique.{unique, unique_all, rests_on, OfCon}
+use Rattle.px_totality.proofs.Unique.{rests_on, OfCon}
 use Rattle.px_soundness.specs.Validity.{IsAssignment, IsValidAt, IsSequentOf}
 use Rattle.px_soundness.specs.Argument.{Assumed, StepsKeepValues}
 use Rattle.px_soundness.proofs.Sides.{each_has_sides}
@@ -56,7 +54,7 @@ module _ (has_value : EachTermHasValue) (keep_values : StepsKeepValues) (Q : Pro
   pub same_is_sound : (j : ℕ) (e : Equation) → slice_get s.alternatives j ≡ Some e → e.left ≡ e.right → IsValidAt Q types funs s size
   same_is_sound j e found one = record {
     some = λ rho fit sizes facts. some_at Q types funs rho s.alternatives j e found
-      (one_side Q types funs rho e one (each_has_sides has_value Q assumed.founded s.context is.typed.context types funs rho (given rho fit) s.alternatives is.typed.alternatives j e found));
+        (one_side Q types funs rho e one (each_has_sides has_value Q assumed.founded s.context is.typed.context types funs rho (given rho fit) s.alternatives is.typed.alternatives j e found));
   }
 
   stepped : (e : Equation) (side : Side) (path : List ℕ) (kind : Kind) (t : Term) → IsTypedEquation Q s.context e → Step Q s.facts (side_of e side) path kind t → (rho : List Value) → FitValues Q types s.context.vars rho → AreTrueAt Q types funs rho s.facts → SameValue Q types funs rho (side_of e side) t
@@ -67,14 +65,14 @@ module _ (has_value : EachTermHasValue) (keep_values : StepsKeepValues) (Q : Pro
   pub step_is_sound : (j : ℕ) (e : Equation) (side : Side) (path : List ℕ) (kind : Kind) (t : Term) → slice_get s.alternatives j ≡ Some e → Step Q s.facts (side_of e side) path kind t → IsValidAt Q types funs (with_alternative_side s j e side t) size → IsValidAt Q types funs s size
   step_is_sound j e side path kind t found step child = record {
     some = λ rho fit sizes facts. some_set Q types funs rho s.alternatives j e (with_side side e t) found
-      (side_back Q types funs rho e side t (stepped e side path kind t (all_at (IsTypedEquation Q s.context) s.alternatives j e is.typed.alternatives found) step rho fit facts))
-      (child.some rho fit sizes facts);
+        (side_back Q types funs rho e side t (stepped e side path kind t (all_at (IsTypedEquation Q s.context) s.alternatives j e is.typed.alternatives found) step rho fit facts))
+        (child.some rho fit sizes facts);
   }
 
   pub fact_step_is_sound : (j : ℕ) (e : Equation) (side : Side) (path : List ℕ) (kind : Kind) (t : Term) → slice_get s.facts j ≡ Some e → Step Q s.facts (side_of e side) path kind t → IsValidAt Q types funs (with_fact_side s j e side t) size → IsValidAt Q types funs s size
   fact_step_is_sound j e side path kind t found step child = record {
     some = λ rho fit sizes facts. child.some rho fit sizes
-      (all_set Q types funs rho s.facts j (with_side side e t) facts
+        (all_set Q types funs rho s.facts j (with_side side e t) facts
         (side_on Q types funs rho e side t (stepped e side path kind t (all_at (IsTypedEquation Q s.context) s.facts j e is.typed.facts found) step rho fit facts) (true_at Q types funs rho s.facts j e found facts)));
   }
 
@@ -127,6 +125,6 @@ module _ (has_value : EachTermHasValue) (keep_values : StepsKeepValues) (Q : Pro
       let there : IsValidAt Q types funs (with_facts s (pairs_equal injected.fields injected.parts)) size = subst (λ (x : Sequent). IsValidAt Q types funs x size) injected.is valid in
       record {
         some = λ rho fit sizes facts. there.some rho fit sizes
-          (all_append Q types funs rho s.facts (pairs_equal injected.fields injected.parts) facts
+            (all_append Q types funs rho s.facts (pairs_equal injected.fields injected.parts) facts
             (fields_true rho injected.e injected.fields injected.parts injected.one_head (true_at Q types funs rho s.facts j injected.e injected.stands facts)));
       }

@@ -1,17 +1,16 @@
 -- The typed terms of a sequent have values, at all types, functions and values that fit its variables.
-use Rattle.std.proofs.Common.{◌≡◌, ℕ, List, [], ◌∷◌, slice_get, Option, Some, refl, sym, subst}
+use Rattle.std.proofs.Common.{◌≡◌, ℕ, List, slice_get, Some}
 use Rattle.std.specs.Prelude.{All}
 use Rattle.px_terms.specs.declared.types.Ty.{Ty}
 use Rattle.px_terms.specs.declared.types.FnType.{FnType}
 use Rattle.px_terms.specs.declared.types.Fun.{Fun}
-use Rattle.px_terms.specs.declared.term.Term.{Term, out-Term}
+use Rattle.px_terms.specs.declared.term.Term.{Term}
 use Rattle.px_terms.specs.declared.term.Value.{Value}
 use Rattle.px_terms.specs.declared.clause.Equation.{Equation}
 use Rattle.px_terms.specs.declared.program.Program.{Program}
 use Rattle.px_terms.specs.declared.sequent.Context.{Context}
 use Rattle.px_terms.specs.Types.{ty_instance}
-use Rattle.px_terms.specs.Values.{IsIn}
-use Rattle.px_terms.specs.Meaning.{MeansOf, Means}
+use Rattle.px_terms.specs.Meaning.{Means}
 use Rattle.px_terms.specs.Typing.{anywhere, HasType}
 use Rattle.px_terms.specs.Extending.{IsWellFounded, FunctionsFit, FitTypes}
 use Rattle.px_terms.specs.Extending as fitting

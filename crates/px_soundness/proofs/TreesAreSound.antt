@@ -1,5 +1,5 @@
 -- Trees are sound: under what is assumed, what a tree derives in a program is valid in its extension.
-use Rattle.std.proofs.Common.{◌≡◌, ℕ, List, [], ◌∷◌}
+use Rattle.std.proofs.Common.{ℕ, List, [], ◌∷◌}
 use Rattle.std.specs.Prelude.{All}
 use Rattle.std.proofs.lemmas.List.Elements.{All-nil, All-cons, All-head, All-tail}
 use Rattle.px_terms.specs.declared.types.Ty.{Ty}
@@ -29,5 +29,5 @@ module _ (keep : RowsKeepTyping) (kept : RowsAreKept) (sound : RowsAreSound) (P 
     trees_are_sound (s ∷ ss) no_node here there all = elim all [ ]
     trees_are_sound (s ∷ ss) (more_nodes first others) here there (derived one all) =
         All-cons (λ (t : Sequent). IsValidAt Q types funs t size) s ss
-          (tree_is_sound s first (All-head (IsSequentOf P own on) s ss here) (All-head (IsSequentOf Q own on) s ss there) one)
-          (trees_are_sound ss others (All-tail (IsSequentOf P own on) s ss here) (All-tail (IsSequentOf Q own on) s ss there) all)
+        (tree_is_sound s first (All-head (IsSequentOf P own on) s ss here) (All-head (IsSequentOf Q own on) s ss there) one)
+        (trees_are_sound ss others (All-tail (IsSequentOf P own on) s ss here) (All-tail (IsSequentOf Q own on) s ss there) all)

@@ -1,4 +1,4 @@
--- A part replaced by one of the same value keeps the value of the whole; px_plain has the same lemmas.
+-- A part replaced by one of the same value keeps the value of the whole.
 use Rattle.std.proofs.Common.{◌≡◌, ℕ, zero, suc, ◌+◌, List, [], ◌∷◌, Option, Some, None, refl, sym, slice_get, slice_set, option_and_then, option_map, subst}
 use Rattle.std.proofs.lemmas.Option.{none-some, same_Some}
 use Rattle.px_terms.specs.declared.types.Ty.{Ty}

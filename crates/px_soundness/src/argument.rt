@@ -1,6 +1,8 @@
 //! The parts of the argument, as functions whose contracts are these laws.
 ghost use Rattle.px_soundness.specs.Argument.{FirstSequentsAreTyped, OpenClausesAreTyped, RowsAreKept, RowsAreSound, RowsKeepTyping, StepsKeepTypes, StepsKeepValues};
 
+use px_totality::each_term_has_value;
+
 /// A step keeps the type of a term.
 pub fn steps_keep_types()
     ensures { StepsKeepTypes }
@@ -33,6 +35,9 @@ pub fn rows_are_kept()
 
 /// A row is sound: where its children are valid at a sum of sizes, its sequent is.
 pub fn rows_are_sound()
-    requires { RowsAreSound }
     ensures { RowsAreSound }
-{}
+{
+    each_term_has_value();
+    open_clauses_are_typed();
+    steps_keep_values();
+}

@@ -1,7 +1,7 @@
 //! What is said of derivations, as functions whose contracts are these laws.
-ghost use Rattle.px_soundness.specs.Argument.{FirstSequentsAreTyped, RowsAreKept, RowsAreSound, RowsKeepTyping};
 ghost use Rattle.px_soundness.specs.Laws.{DerivationsAreSound, EachStackIsTree, OneClause, OneOpening, StacksAreTrees};
 
+use crate::argument::{first_sequents_are_typed, rows_are_kept, rows_are_sound, rows_keep_typing};
 use px_totality::extensions_keep;
 
 /// In a program that is typed and descends a row leaves at most one list of children of a sequent.
@@ -26,11 +26,11 @@ pub fn one_clause()
 
 /// Where trees derive the obligations of a program that is typed and descends, each obligation holds in every extension.
 pub fn derivations_are_sound()
-    requires first { FirstSequentsAreTyped }
-    requires keep { RowsKeepTyping }
-    requires kept { RowsAreKept }
-    requires sound { RowsAreSound }
     ensures { DerivationsAreSound }
 {
+    first_sequents_are_typed();
+    rows_keep_typing();
+    rows_are_kept();
+    rows_are_sound();
     extensions_keep();
 }
