@@ -1,0 +1,12 @@
+pub mod Lists
+pub mod Listing
+pub mod Counted
+pub mod AlikeSteps
+pub mod Loops
+pub mod FormedSteps
+pub mod IndexSteps
+pub mod IndexUse
+pub mod KnownSteps
+pub mod Opening
+pub mod FunctionSteps
+pub mod TermsSteps

@@ -1,0 +1,46 @@
+use Rattle.std.proofs.Common.{◌<◌, ◌≤◌, length, ◌∙◌}
+use Rattle.px_equations.proofs.Loops.{not_of}
+use Rattle.px_equations.proofs.FunctionSteps.{open_next, not_typed, not_assumed, open_end, uneven}
+use Rattle.px_equations.proofs.functions.are_open.Goals as goal
+
+pub returns-then-funs-takes : goal.returns-then-funs-takes
+returns-then-funs-takes c =
+    uneven c.args.all.now c.args.number c.args.filling.now.context.now c.args.filling.now.sigma.now.types c.args.filling.now.sigma.now.funs
+    c.as_slice-funs.result.now c.args.filling.now.clause.now.funs c.as_slice-takes.result.now c.as_slice-funs.ensures c.as_slice-takes.ensures
+    c.if-funs-takes.true
+
+pub loop-index-init : goal.loop-index-init
+loop-index-init c = (λ e. e, λ e. e)
+
+pub returns-then-not-is_function : goal.returns-then-not-is_function
+returns-then-not-is_function c =
+    let below : c.loop-index.index < length c.as_slice-takes.result.now = rw (← c.if-funs-takes.false) c.loop-index-test.true in
+    not_typed c.args.all.now c.args.number c.args.filling.now.context.now c.args.filling.now.sigma.now.types c.args.filling.now.sigma.now.funs
+    c.as_slice-funs.result.now c.args.filling.now.clause.now.funs c.as_slice-takes.result.now c.as_slice-funs.ensures c.as_slice-takes.ensures
+    c.loop-index.index c.index-funs-index.result c.index-takes-index.result c.program-program.result.now c.loop-index-test.true below
+    c.index-funs-index.is c.index-takes-index.is (c.program-program.ensures.same ∙ c.checked.ensures.same)
+    (not_of c.is_function.result c.is_function.ensures c.if-not-is_function.true) c.loop-index.invariant
+
+pub returns-then-not-has_assumed : goal.returns-then-not-has_assumed
+returns-then-not-has_assumed c =
+    let below : c.loop-index.index < length c.as_slice-takes.result.now = rw (← c.if-funs-takes.false) c.loop-index-test.true in
+    not_assumed c.args.all.now c.args.number c.args.filling.now.context.now c.args.filling.now.sigma.now.types c.args.filling.now.sigma.now.funs
+    c.as_slice-funs.result.now c.args.filling.now.clause.now.funs c.as_slice-takes.result.now c.as_slice-funs.ensures c.as_slice-takes.ensures
+    c.loop-index.index c.index-funs-index.result c.index-takes-index.result c.loop-index-test.true below c.index-funs-index.is c.index-takes-index.is
+    (not_of c.has_assumed.result c.has_assumed.ensures c.if-not-has_assumed.true) c.loop-index.invariant
+
+pub loop-index-preserved : goal.loop-index-preserved
+loop-index-preserved c =
+    let below : c.loop-index.index < length c.as_slice-takes.result.now = rw (← c.if-funs-takes.false) c.loop-index-test.true in
+    open_next c.args.all.now c.args.number c.args.filling.now.context.now c.args.filling.now.sigma.now.types c.args.filling.now.sigma.now.funs
+    c.as_slice-funs.result.now c.args.filling.now.clause.now.funs c.as_slice-takes.result.now c.as_slice-funs.ensures c.as_slice-takes.ensures
+    c.loop-index.index c.index-funs-index.result c.index-takes-index.result c.program-program.result.now c.loop-index-test.true below
+    c.index-funs-index.is c.index-takes-index.is (c.program-program.ensures.same ∙ c.checked.ensures.same)
+    (c.is_function.ensures.0 c.if-not-is_function.false) (c.has_assumed.ensures.0 c.if-not-has_assumed.false) c.loop-index.invariant
+
+pub returns : goal.returns
+returns c =
+    let over : length c.as_slice-takes.result.now ≤ c.loop-index.index = rw (← c.if-funs-takes.false) c.loop-index-test.false in
+    open_end c.args.all.now c.args.number c.args.filling.now.context.now c.args.filling.now.sigma.now.types c.args.filling.now.sigma.now.funs
+    c.as_slice-funs.result.now c.args.filling.now.clause.now.funs c.as_slice-takes.result.now c.as_slice-funs.ensures c.as_slice-takes.ensures
+    c.loop-index.index c.loop-index-test.false over c.loop-index.invariant

@@ -1,0 +1,4 @@
+pub mod Listed
+pub mod Open
+pub mod Filled
+pub mod Index

@@ -1,0 +1,112 @@
+//! Which clause is open to an obligation.
+
+ghost use Rattle.std.specs.Prelude.{◌≡◌, ◌<◌, length, IfOk};
+ghost use Rattle.px_terms.specs.declared.clause.Clause.{Clause as Said};
+ghost use Rattle.px_terms.specs.Obligations.{IsObligation};
+ghost use Rattle.px_terms.specs.Noting.{IsOpen};
+ghost use Rattle.px_equations.specs.Open.{IsThatOpen, TellsFor, TellsOpen, clause_in};
+
+use crate::known::known;
+use crate::obligations::Obligations;
+use px_props::{ClauseEnd, clause_of, has};
+use px_terms::{Clause, Head, NoMemory, Prop, Ref};
+use std::alloc::Global;
+
+/// A clause that is open: one of the list, or one that was made.
+#[derive(Drop)]
+pub enum OpenClause<'a> {
+    Listed(&'a Clause),
+    Made(Clause),
+}
+
+impl<'a> OpenClause<'a> {
+    /// The clause. It takes no memory.
+    pub fn clause(&self) -> &Clause
+        ensures { result.now ≡ clause_in self.now }
+    {
+        match self {
+            OpenClause::Listed(clause) => clause,
+            OpenClause::Made(clause) => clause,
+        }
+    }
+}
+
+/// The clause that the reference is open to in the obligation of this number, or `None` where there is none. It takes memory
+/// for the clause of a property, which is made; all others are lent.
+pub fn available<'t, 'p: 't>(
+    alloc: Global,
+    all: &'t Obligations<'p>,
+    number: u32,
+    reference: &Ref,
+) -> Result<Option<OpenClause<'t>>, NoMemory>
+    requires { number < length all.now.declared }
+    ensures open { IfOk result (TellsOpen all.now number reference.now) }
+    // Where a clause is open, it is that clause.
+    ensures only { (own clause : Said) → IsObligation all.now number own → IsOpen all.now number own reference.now clause → IfOk result (IsThatOpen clause) }
+{
+    let Some(own) = all.clause(number) else {
+        return Ok(None);
+    };
+    open_in(alloc, all, number, own, *reference)
+}
+
+/// The clause that the reference is open to in the obligation of this number, whose clause is `own`. It takes memory.
+fn open_in<'t, 'p: 't>(
+    alloc: Global,
+    all: &'t Obligations<'p>,
+    number: u32,
+    own: &'t Clause,
+    reference: Ref,
+) -> Result<Option<OpenClause<'t>>, NoMemory>
+    requires { IsObligation all.now number own.now }
+    ensures open { IfOk result (TellsFor all.now number own.now reference) }
+    ensures only { (clause : Said) → IsOpen all.now number own.now reference clause → IfOk result (IsThatOpen clause) }
+{
+    match reference {
+        Ref::Property { head, prop } => property_in(alloc, all, number, own, head, prop),
+        Ref::Lemma { lemma } => Ok(lemma_in(all, number, own, lemma)),
+        Ref::Hypothesis => Ok(Some(OpenClause::Listed(own))),
+    }
+}
+
+/// The clause of the lemma, where it stands below the obligation of this number. It takes no memory.
+fn lemma_in<'t, 'p: 't>(
+    all: &'t Obligations<'p>,
+    number: u32,
+    _own: &Clause,
+    lemma: u32,
+) -> Option<OpenClause<'t>>
+    ensures open { TellsFor all.now number _own.now (Ref.Lemma lemma) result }
+    ensures only { (clause : Said) → IsOpen all.now number _own.now (Ref.Lemma lemma) clause → IsThatOpen clause result }
+{
+    let first = all.lemma_below(number, lemma)?;
+    match all.clause(first) {
+        Some(clause) => Some(OpenClause::Listed(clause)),
+        None => None,
+    }
+}
+
+/// The clause of the property, where it is known of the function below the obligation of this number. It takes memory.
+fn property_in<'t, 'p: 't>(
+    alloc: Global,
+    all: &'t Obligations<'p>,
+    number: u32,
+    own: &Clause,
+    head: Head,
+    prop: Prop,
+) -> Result<Option<OpenClause<'t>>, NoMemory>
+    requires { IsObligation all.now number own.now }
+    ensures open { IfOk result (TellsFor all.now number own.now (Ref.Property head prop)) }
+    ensures only { (clause : Said) → IsOpen all.now number own.now (Ref.Property head prop) clause → IfOk result (IsThatOpen clause) }
+{
+    let funs = own.funs.as_slice();
+    let program = all.checked().program();
+    if !has(known(all, number, funs, head), prop) {
+        return Ok(None);
+    }
+    match clause_of(alloc, program, head, funs, prop) {
+        Ok(clause) => Ok(Some(OpenClause::Made(clause))),
+        Err(ClauseEnd::Shape) => Ok(None),
+        Err(ClauseEnd::NoMemory) => Err(NoMemory),
+    }
+}
