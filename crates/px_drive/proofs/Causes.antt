@@ -2,7 +2,7 @@
 use Rattle.std.proofs.Common.{◌≡◌, ◌<◌, ◌≤◌, ℕ, ◌⊎◌, List, length, Option, None, Some, Err, inl, inr, refl, ap, sym, subst, ◌∙◌, arith, length-append}
 use Rattle.std.specs.Io.KnownBytes.{Consumes}
 use Rattle.px_terms.specs.declared.program.Program.{Program as AnyProgram}
-use Rattle.px_terms.specs.Plain.{IsPlainProgram}
+use Rattle.px_replay.specs.declared.ends.Why.{Why}
 use Rattle.px_world.specs.Faults.{Rose}
 use Rattle.px_world.specs.Known.{Told, IsLonger}
 use Rattle.px_drive.specs.declared.outcome.CommandLine.{CommandLine}
@@ -11,18 +11,18 @@ use Rattle.px_drive.specs.declared.outcome.Which.TheVariants.{Program, Derivatio
 use Rattle.px_drive.specs.declared.outcome.End.{End}
 use Rattle.px_drive.specs.declared.outcome.End.TheVariants.{Done, Usage, Source, Rejected, ReadFault, WriteFault, NoMemory, TooLong}
 use Rattle.px_drive.specs.declared.outcome.SourceFault.{SourceFault}
-use Rattle.px_drive.specs.declared.outcome.SourceFault.TheVariants.{Lex, Parse, Scope, Typing, Descent, Unbuilt}
+use Rattle.px_drive.specs.declared.outcome.SourceFault.TheVariants.{Lex, Parse, Scope, Typing, Descent}
 use Rattle.px_drive.specs.Lines.{line_of, program_of}
 use Rattle.px_drive.specs.Seen.{FilesSeen, SinkSeen}
-use Rattle.px_drive.specs.Ends.{limit_of, ReadsText, TakesProgram, Accepts, Prints, AndThen, LineEnds}
+use Rattle.px_drive.specs.Ends.{limit_of, ReadsText, Accepts, Prints, AndThen, LineEnds}
 use Rattle.px_drive.specs.Messages.{checked_line, accepted_line}
-use Rattle.px_drive.specs.Sources.{IsSource, IsSourceFault, IsUnbuilt, Sources}
-use Rattle.px_drive.specs.Laws.{OneSource, OneSourceFault, NeverBoth, UsageByWords, DoneOrUsage, EndsAreNamed, IsUntaken, IsRefusal, IsFaulty, SourceIsFaulty, FaultyIsSource, DoneIsChecked, DoneIsReplayed, RejectedIsRefused, TooLongIsLonger, LongIsTooLong, LongIsNotReplayed, RefusalsPrintNothing}
+use Rattle.px_drive.specs.Sources.{IsSource, IsSourceFault, Sources}
+use Rattle.px_drive.specs.Laws.{OneSourceFault, NeverBoth, NeverRejected, UsageByWords, DoneOrUsage, EndsAreNamed, IsFaulty, SourceIsFaulty, FaultyIsSource, DoneIsChecked, DoneIsReplayed, RejectedIsRefused, TooLongIsLonger, LongIsTooLong, LongIsNotReplayed, RefusalsPrintNothing}
 
 -- what a line does after its program was read
 abbrev Goes : FilesSeen → SinkSeen → CommandLine → AnyProgram → End → List ℕ → Type 0
 Goes files out (Check file) program = Prints (checked_line program) out
-Goes files out (Replay file derivation) program = AndThen (TakesProgram program) (λ taken. AndThen (ReadsText Derivation files derivation) (λ bytes. AndThen (Accepts program bytes) (λ n. Prints (accepted_line n) out)))
+Goes files out (Replay file derivation) program = AndThen (ReadsText Derivation files derivation) (λ bytes. AndThen (Accepts program bytes) (λ n. Prints (accepted_line n) out))
 
 -- each line reads its program first
 abbrev Begins : FilesSeen → SinkSeen → CommandLine → End → List ℕ → Type 0
@@ -40,28 +40,22 @@ no_usage files out (Check file) printed (inr (text, _, inr (program, _, h))) = h
 no_usage files out (Replay file derivation) printed (inl (h, _)) = h
 no_usage files out (Replay file derivation) printed (inr (text, _, inl (h, _))) = h
 no_usage files out (Replay file derivation) printed (inr (text, _, inr (program, _, inl (h, _)))) = h
-no_usage files out (Replay file derivation) printed (inr (text, _, inr (program, _, inr (taken, _, inl (h, _))))) = h
-no_usage files out (Replay file derivation) printed (inr (text, _, inr (program, _, inr (taken, _, inr (steps, _, inl (h, _)))))) = h
-no_usage files out (Replay file derivation) printed (inr (text, _, inr (program, _, inr (taken, _, inr (steps, _, inr (n, _, h)))))) = h
+no_usage files out (Replay file derivation) printed (inr (text, _, inr (program, _, inr (steps, _, inl (h, _))))) = h
+no_usage files out (Replay file derivation) printed (inr (text, _, inr (program, _, inr (steps, _, inr (n, _, h))))) = h
 
--- `check` ends neither in Rejected, nor with a derivation that is too long, nor Unbuilt
-check_is_named : (files : FilesSeen) (out : SinkSeen) (file printed : List ℕ) → (LineEnds files out (Check file) Rejected printed → ⊥) × (LineEnds files out (Check file) (TooLong Derivation) printed → ⊥) × (LineEnds files out (Check file) (Source Unbuilt) printed → ⊥)
-check_is_named files out file printed = (rejected, derivation, unbuilt)
+-- `check` ends neither in Rejected, nor with a derivation that is too long
+check_is_named : (files : FilesSeen) (out : SinkSeen) (file printed : List ℕ) → ((number : ℕ) (why : Why) → LineEnds files out (Check file) (Rejected number why) printed → ⊥) × (LineEnds files out (Check file) (TooLong Derivation) printed → ⊥)
+check_is_named files out file printed = (rejected, derivation)
   where
-    rejected : LineEnds files out (Check file) Rejected printed → ⊥
-    rejected (inl (h, _)) = h
-    rejected (inr (text, _, inl (h, _))) = h
-    rejected (inr (text, _, inr (program, _, h))) = h
+    rejected : (number : ℕ) (why : Why) → LineEnds files out (Check file) (Rejected number why) printed → ⊥
+    rejected number why (inl (h, _)) = h
+    rejected number why (inr (text, _, inl (h, _))) = h
+    rejected number why (inr (text, _, inr (program, _, h))) = h
 
     derivation : LineEnds files out (Check file) (TooLong Derivation) printed → ⊥
     derivation (inl ((differ, _), _)) = let no : Derivation ≡ Program = differ in cc
     derivation (inr (text, _, inl (h, _))) = h
     derivation (inr (text, _, inr (program, _, h))) = h
-
-    unbuilt : LineEnds files out (Check file) (Source Unbuilt) printed → ⊥
-    unbuilt (inl (h, _)) = h
-    unbuilt (inr (text, _, inl (h, _))) = h
-    unbuilt (inr (text, _, inr (program, _, h))) = h
 
 pub ends_are_named : EndsAreNamed
 ends_are_named files out (Check file) Done printed h = tt
@@ -71,8 +65,7 @@ ends_are_named files out (Check file) (Source (Parse at)) printed h = tt
 ends_are_named files out (Check file) (Source (Scope kind at)) printed h = tt
 ends_are_named files out (Check file) (Source (Typing kind at)) printed h = tt
 ends_are_named files out (Check file) (Source (Descent def call)) printed h = tt
-ends_are_named files out (Check file) (Source Unbuilt) printed h = (check_is_named files out file printed).2 h
-ends_are_named files out (Check file) Rejected printed h = (check_is_named files out file printed).0 h
+ends_are_named files out (Check file) (Rejected number why) printed h = (check_is_named files out file printed).0 number why h
 ends_are_named files out (Check file) ReadFault printed h = tt
 ends_are_named files out (Check file) WriteFault printed h = tt
 ends_are_named files out (Check file) NoMemory printed h = tt
@@ -81,7 +74,7 @@ ends_are_named files out (Check file) (TooLong Derivation) printed h = (check_is
 ends_are_named files out (Replay file derivation) Done printed h = tt
 ends_are_named files out (Replay file derivation) Usage printed h = no_usage files out (Replay file derivation) printed h
 ends_are_named files out (Replay file derivation) (Source fault) printed h = tt
-ends_are_named files out (Replay file derivation) Rejected printed h = tt
+ends_are_named files out (Replay file derivation) (Rejected number why) printed h = tt
 ends_are_named files out (Replay file derivation) ReadFault printed h = tt
 ends_are_named files out (Replay file derivation) WriteFault printed h = tt
 ends_are_named files out (Replay file derivation) NoMemory printed h = tt
@@ -93,7 +86,7 @@ usage_is_by_words words files out None Usage h = (λ _. h.0, λ _. inl refl)
 usage_is_by_words words files out None NoMemory h = (λ (e : NoMemory ≡ Usage). (cc), λ _. inr refl)
 usage_is_by_words words files out None Done h = absurd h.0
 usage_is_by_words words files out None (Source fault) h = absurd h.0
-usage_is_by_words words files out None Rejected h = absurd h.0
+usage_is_by_words words files out None (Rejected number why) h = absurd h.0
 usage_is_by_words words files out None ReadFault h = absurd h.0
 usage_is_by_words words files out None WriteFault h = absurd h.0
 usage_is_by_words words files out None (TooLong text) h = absurd h.0
@@ -117,36 +110,33 @@ pub done_is_replayed : DoneIsReplayed
 done_is_replayed files out file derivation printed (inl (h, _)) = absurd h
 done_is_replayed files out file derivation printed (inr (text, _, inl (h, _))) = absurd h
 done_is_replayed files out file derivation printed (inr (text, _, inr (program, _, inl (h, _)))) = absurd h
-done_is_replayed files out file derivation printed (inr (text, _, inr (program, _, inr (taken, _, inl (h, _))))) = absurd h
-done_is_replayed files out file derivation printed (inr (text, _, inr (program, _, inr (taken, _, inr (steps, _, inl (h, _)))))) = absurd h
-done_is_replayed files out file derivation printed (inr (text, read, inr (program, source, inr (taken, plain, inr (steps, steps_read, inr (n, (accepts, count), is)))))) = record {
+done_is_replayed files out file derivation printed (inr (text, _, inr (program, _, inr (steps, _, inl (h, _))))) = absurd h
+done_is_replayed files out file derivation printed (inr (text, read, inr (program, source, inr (steps, steps_read, inr (n, (accepts, count), is))))) = record {
   text = text;
   steps = steps;
   program = program;
   text_is = read.0;
   steps_is = steps_read.0;
   is_source = source;
-  is_plain = plain;
   is_derivation = accepts;
   printed_is = rw (← count) is;
 }
 
-pub rejected_is_refused : RejectedIsRefused
-rejected_is_refused files out file derivation printed (inl (h, _)) = absurd h
-rejected_is_refused files out file derivation printed (inr (text, _, inl (h, _))) = absurd h
-rejected_is_refused files out file derivation printed (inr (text, _, inr (program, _, inl (h, _)))) = absurd h
-rejected_is_refused files out file derivation printed (inr (text, _, inr (program, _, inr (taken, _, inl (h, _))))) = absurd h
-rejected_is_refused files out file derivation printed (inr (text, read, inr (program, source, inr (taken, plain, inr (steps, steps_read, inl (refused, _)))))) = record {
+pub rejected_is_refused : NeverRejected → RejectedIsRefused
+rejected_is_refused never files out file derivation printed number why (inl (h, _)) = absurd h
+rejected_is_refused never files out file derivation printed number why (inr (text, _, inl (h, _))) = absurd h
+rejected_is_refused never files out file derivation printed number why (inr (text, _, inr (program, _, inl (h, _)))) = absurd h
+rejected_is_refused never files out file derivation printed number why (inr (text, read, inr (program, source, inr (steps, steps_read, inl (refused, _))))) = record {
   text = text;
   steps = steps;
   program = program;
   text_is = read.0;
   steps_is = steps_read.0;
   is_source = source;
-  is_plain = plain;
-  is_none = refused;
+  is_rejected = refused;
+  is_none = λ derived. never program steps number why derived refused;
 }
-rejected_is_refused files out file derivation printed (inr (text, _, inr (program, _, inr (taken, _, inr (steps, _, inr (n, _, h)))))) = absurd h
+rejected_is_refused never files out file derivation printed number why (inr (text, _, inr (program, _, inr (steps, _, inr (n, _, h))))) = absurd h
 
 -- a text of which more than the limit came is longer than that
 pub longer : (known left : Option (List ℕ)) (came : List ℕ) (limit : ℕ) → Consumes known left came → limit < length came → IsLonger known limit
@@ -157,10 +147,9 @@ longer (Some text) (Some rest) came limit consumed above = omega (arith, ap leng
 -- after the program was read it isn't too long
 not_too_long : (files : FilesSeen) (out : SinkSeen) (line : CommandLine) (program : AnyProgram) (printed : List ℕ) → Goes files out line program (TooLong Program) printed → ⊥
 not_too_long files out (Check file) program printed h = h
-not_too_long files out (Replay file derivation) program printed (inl (h, _)) = h
-not_too_long files out (Replay file derivation) program printed (inr (taken, _, inl ((differ, _), _))) = let no : Program ≡ Derivation = differ in cc
-not_too_long files out (Replay file derivation) program printed (inr (taken, _, inr (bytes, _, inl (h, _)))) = h
-not_too_long files out (Replay file derivation) program printed (inr (taken, _, inr (bytes, _, inr (n, _, h)))) = h
+not_too_long files out (Replay file derivation) program printed (inl ((differ, _), _)) = let no : Program ≡ Derivation = differ in cc
+not_too_long files out (Replay file derivation) program printed (inr (bytes, _, inl (h, _))) = h
+not_too_long files out (Replay file derivation) program printed (inr (bytes, _, inr (n, _, h))) = h
 
 program_is_longer : (files : FilesSeen) (out : SinkSeen) (line : CommandLine) (printed : List ℕ) → Begins files out line (TooLong Program) printed → IsLonger (files.bytes (program_of line)) (limit_of Program)
 program_is_longer files out line printed (inl ((_, (came, consumed, above)), _)) = longer _ _ came _ consumed above
@@ -173,10 +162,9 @@ too_long_is_longer files out line file derivation printed = (λ h. program_is_lo
     steps : LineEnds files out (Replay file derivation) (TooLong Derivation) printed → IsLonger (files.bytes derivation) (limit_of Derivation)
     steps (inl ((differ, _), _)) = cc
     steps (inr (text, _, inl (h, _))) = absurd h
-    steps (inr (text, _, inr (read, _, inl (h, _)))) = absurd h
-    steps (inr (text, _, inr (read, _, inr (taken, _, inl ((_, (came, consumed, above)), _))))) = longer _ _ came _ consumed above
-    steps (inr (text, _, inr (read, _, inr (taken, _, inr (bytes, _, inl (h, _)))))) = absurd h
-    steps (inr (text, _, inr (read, _, inr (taken, _, inr (bytes, _, inr (n, _, h)))))) = absurd h
+    steps (inr (text, _, inr (read, _, inl ((_, (came, consumed, above)), _)))) = longer _ _ came _ consumed above
+    steps (inr (text, _, inr (read, _, inr (bytes, _, inl (h, _))))) = absurd h
+    steps (inr (text, _, inr (read, _, inr (bytes, _, inr (n, _, h))))) = absurd h
 
 -- a told text that is longer than the limit isn't read whole
 not_whole : (known : Option (List ℕ)) (text bytes : List ℕ) (limit : ℕ) → known ≡ Some text → limit < length text → Told known bytes → length bytes ≤ limit → ⊥
@@ -193,7 +181,7 @@ long_ends files out line printed text NoMemory known above (inl h) = inr (inr re
 long_ends files out line printed text Done known above (inl (h, _)) = absurd h
 long_ends files out line printed text Usage known above (inl (h, _)) = absurd h
 long_ends files out line printed text (Source fault) known above (inl (h, _)) = absurd h
-long_ends files out line printed text Rejected known above (inl (h, _)) = absurd h
+long_ends files out line printed text (Rejected number why) known above (inl (h, _)) = absurd h
 long_ends files out line printed text WriteFault known above (inl (h, _)) = absurd h
 
 pub long_is_too_long : LongIsTooLong
@@ -203,20 +191,17 @@ pub long_is_not_replayed : LongIsNotReplayed
 long_is_not_replayed files out file derivation printed bytes Done known above (inl (h, _)) = absurd h
 long_is_not_replayed files out file derivation printed bytes Done known above (inr (text, _, inl (h, _))) = absurd h
 long_is_not_replayed files out file derivation printed bytes Done known above (inr (text, _, inr (program, _, inl (h, _)))) = absurd h
-long_is_not_replayed files out file derivation printed bytes Done known above (inr (text, _, inr (program, _, inr (taken, _, inl (h, _))))) = absurd h
-long_is_not_replayed files out file derivation printed bytes Done known above (inr (text, _, inr (program, _, inr (taken, _, inr (steps, read, rest))))) =
+long_is_not_replayed files out file derivation printed bytes Done known above (inr (text, _, inr (program, _, inr (steps, read, rest)))) =
     absurd (not_whole (files.bytes derivation) bytes steps (limit_of Derivation) known above read.0 read.1)
-long_is_not_replayed files out file derivation printed bytes Rejected known above (inl (h, _)) = absurd h
-long_is_not_replayed files out file derivation printed bytes Rejected known above (inr (text, _, inl (h, _))) = absurd h
-long_is_not_replayed files out file derivation printed bytes Rejected known above (inr (text, _, inr (program, _, inl (h, _)))) = absurd h
-long_is_not_replayed files out file derivation printed bytes Rejected known above (inr (text, _, inr (program, _, inr (taken, _, inl (h, _))))) = absurd h
-long_is_not_replayed files out file derivation printed bytes Rejected known above (inr (text, _, inr (program, _, inr (taken, _, inr (steps, read, rest))))) =
+long_is_not_replayed files out file derivation printed bytes (Rejected number why) known above (inl (h, _)) = absurd h
+long_is_not_replayed files out file derivation printed bytes (Rejected number why) known above (inr (text, _, inl (h, _))) = absurd h
+long_is_not_replayed files out file derivation printed bytes (Rejected number why) known above (inr (text, _, inr (program, _, inl (h, _)))) = absurd h
+long_is_not_replayed files out file derivation printed bytes (Rejected number why) known above (inr (text, _, inr (program, _, inr (steps, read, rest)))) =
     absurd (not_whole (files.bytes derivation) bytes steps (limit_of Derivation) known above read.0 read.1)
 long_is_not_replayed files out file derivation printed bytes WriteFault known above (inl (h, _)) = absurd h
 long_is_not_replayed files out file derivation printed bytes WriteFault known above (inr (text, _, inl (h, _))) = absurd h
 long_is_not_replayed files out file derivation printed bytes WriteFault known above (inr (text, _, inr (program, _, inl (h, _)))) = absurd h
-long_is_not_replayed files out file derivation printed bytes WriteFault known above (inr (text, _, inr (program, _, inr (taken, _, inl (h, _))))) = absurd h
-long_is_not_replayed files out file derivation printed bytes WriteFault known above (inr (text, _, inr (program, _, inr (taken, _, inr (steps, read, rest))))) =
+long_is_not_replayed files out file derivation printed bytes WriteFault known above (inr (text, _, inr (program, _, inr (steps, read, rest)))) =
     absurd (not_whole (files.bytes derivation) bytes steps (limit_of Derivation) known above read.0 read.1)
 long_is_not_replayed files out file derivation printed bytes Usage known above h = tt
 long_is_not_replayed files out file derivation printed bytes (Source fault) known above h = tt
@@ -230,7 +215,7 @@ prints_done line out Done printed h = inl refl
 prints_done line out WriteFault printed h = inr refl
 prints_done line out Usage printed h = absurd h
 prints_done line out (Source fault) printed h = absurd h
-prints_done line out Rejected printed h = absurd h
+prints_done line out (Rejected number why) printed h = absurd h
 prints_done line out ReadFault printed h = absurd h
 prints_done line out NoMemory printed h = absurd h
 prints_done line out (TooLong long) printed h = absurd h
@@ -246,56 +231,20 @@ refusals_print_nothing files out (Check file) printed end (inr (text, _, inr (pr
 refusals_print_nothing files out (Replay file derivation) printed end (inl (_, none)) not_done not_fault = none
 refusals_print_nothing files out (Replay file derivation) printed end (inr (text, _, inl (_, none))) not_done not_fault = none
 refusals_print_nothing files out (Replay file derivation) printed end (inr (text, _, inr (program, _, inl (_, none)))) not_done not_fault = none
-refusals_print_nothing files out (Replay file derivation) printed end (inr (text, _, inr (program, _, inr (taken, _, inl (_, none))))) not_done not_fault = none
-refusals_print_nothing files out (Replay file derivation) printed end (inr (text, _, inr (program, _, inr (taken, _, inr (steps, _, inl (_, none)))))) not_done not_fault = none
-refusals_print_nothing files out (Replay file derivation) printed end (inr (text, _, inr (program, _, inr (taken, _, inr (steps, _, inr (n, _, h)))))) not_done not_fault = absurd (neither end (prints_done (accepted_line n) out end printed h) not_done not_fault)
+refusals_print_nothing files out (Replay file derivation) printed end (inr (text, _, inr (program, _, inr (steps, _, inl (_, none))))) not_done not_fault = none
+refusals_print_nothing files out (Replay file derivation) printed end (inr (text, _, inr (program, _, inr (steps, _, inr (n, _, h))))) not_done not_fault = absurd (neither end (prints_done (accepted_line n) out end printed h) not_done not_fault)
 
--- a fault of the text refuses it
-refusal_of : (line : CommandLine) (text : List ℕ) (fault : SourceFault) → IsSourceFault text fault → IsRefusal line text fault
-refusal_of line text (Lex at) fault = fault
-refusal_of line text (Parse at) fault = fault
-refusal_of line text (Scope kind at) fault = fault
-refusal_of line text (Typing kind at) fault = fault
-refusal_of line text (Descent def call) fault = fault
-refusal_of line text Unbuilt fault = absurd fault
-
--- a program that is not taken is not one over truth values, and the end says that it is not taken
-pub not_taken : (program : AnyProgram) (end : End) → TakesProgram program (Err end) → (end ≡ Source Unbuilt) × (¬ IsPlainProgram program)
-not_taken program (Source Unbuilt) h = (refl, h)
-not_taken program (Source (Lex at)) h = absurd h
-not_taken program (Source (Parse at)) h = absurd h
-not_taken program (Source (Scope kind at)) h = absurd h
-not_taken program (Source (Typing kind at)) h = absurd h
-not_taken program (Source (Descent def call)) h = absurd h
-not_taken program NoMemory h = absurd h
-not_taken program Done h = absurd h
-not_taken program Usage h = absurd h
-not_taken program Rejected h = absurd h
-not_taken program ReadFault h = absurd h
-not_taken program WriteFault h = absurd h
-not_taken program (TooLong long) h = absurd h
-
--- a program that is not taken refuses its text
-untaken : (file derivation text : List ℕ) (program : AnyProgram) (fault : SourceFault) → IsSource text program → TakesProgram program (Err (Source fault)) → IsRefusal (Replay file derivation) text fault
-untaken file derivation text program fault source takes =
-    let told : (Source fault ≡ Source Unbuilt) × (¬ IsPlainProgram program) = not_taken program (Source fault) takes in
-    let is : fault ≡ Unbuilt = let same : Source fault ≡ Source Unbuilt = told.0 in cc in
-    let unbuilt : IsUnbuilt text = record { program = program; is_source = source; other = told.1 } in
-    subst (IsRefusal (Replay file derivation) text) (sym is) unbuilt
-
--- after the program was read there is no fault of its text but that it is not taken
-goes_refused : (files : FilesSeen) (out : SinkSeen) (line : CommandLine) (text : List ℕ) (program : AnyProgram) (fault : SourceFault) (printed : List ℕ) → IsSource text program
-    → Goes files out line program (Source fault) printed → IsRefusal line text fault
-goes_refused files out (Check file) text program fault printed source h = absurd h
-goes_refused files out (Replay file derivation) text program fault printed source (inl (takes, _)) = untaken file derivation text program fault source takes
-goes_refused files out (Replay file derivation) text program fault printed source (inr (taken, _, inl (h, _))) = absurd h
-goes_refused files out (Replay file derivation) text program fault printed source (inr (taken, _, inr (bytes, _, inl (h, _)))) = absurd h
-goes_refused files out (Replay file derivation) text program fault printed source (inr (taken, _, inr (bytes, _, inr (n, _, h)))) = absurd h
+-- after the program was read there is no fault of its text
+no_fault_later : (files : FilesSeen) (out : SinkSeen) (line : CommandLine) (program : AnyProgram) (fault : SourceFault) (printed : List ℕ) → Goes files out line program (Source fault) printed → ⊥
+no_fault_later files out (Check file) program fault printed h = h
+no_fault_later files out (Replay file derivation) program fault printed (inl (h, _)) = h
+no_fault_later files out (Replay file derivation) program fault printed (inr (bytes, _, inl (h, _))) = h
+no_fault_later files out (Replay file derivation) program fault printed (inr (bytes, _, inr (n, _, h))) = h
 
 faulty : (files : FilesSeen) (out : SinkSeen) (line : CommandLine) (printed : List ℕ) (fault : SourceFault) → Begins files out line (Source fault) printed → IsFaulty files line fault
 faulty files out line printed fault (inl (h, _)) = absurd h
-faulty files out line printed fault (inr (text, read, inl (source, _))) = record { text = text; text_is = read.0; is_refusal = refusal_of line text fault source }
-faulty files out line printed fault (inr (text, read, inr (program, source, h))) = record { text = text; text_is = read.0; is_refusal = goes_refused files out line text program fault printed source h }
+faulty files out line printed fault (inr (text, read, inl (source, _))) = record { text = text; text_is = read.0; is_fault = source }
+faulty files out line printed fault (inr (text, read, inr (program, source, h))) = absurd (no_fault_later files out line program fault printed h)
 
 pub source_is_faulty : SourceIsFaulty
 source_is_faulty files out line printed fault h = faulty files out line printed fault (begins files out line (Source fault) printed h)
@@ -314,71 +263,33 @@ not_longer (Some whole) text limit known fits above = let same : whole ≡ text 
 abbrev EndsWith : SourceFault → End → Type 0
 EndsWith fault end = (end ≡ Source fault) ⊎ ((end ≡ ReadFault) ⊎ (end ≡ NoMemory))
 
-module _ (one_source : OneSource) (one_fault : OneSourceFault) (never_both : NeverBoth) where
+module _ (one_fault : OneSourceFault) (never_both : NeverBoth) where
   -- a text that has a fault is refused for it, but for want of memory
   refused : (text : List ℕ) (fault : SourceFault) (end : End) → IsSourceFault text fault → Sources text (Err end) → EndsWith fault end
   refused text fault (Source found) is h = inl (ap Source (one_fault text found fault h is))
   refused text fault NoMemory is h = inr (inr refl)
   refused text fault Done is h = absurd h
   refused text fault Usage is h = absurd h
-  refused text fault Rejected is h = absurd h
+  refused text fault (Rejected number why) is h = absurd h
   refused text fault ReadFault is h = absurd h
   refused text fault WriteFault is h = absurd h
   refused text fault (TooLong long) is h = absurd h
 
-  -- a text that is a program is refused before it was read only for want of memory
-  unread : (text : List ℕ) (program : AnyProgram) (fault : SourceFault) (end : End) → IsSource text program → Sources text (Err end) → EndsWith fault end
-  unread text program fault (Source found) source h = absurd (never_both text program found source h)
-  unread text program fault NoMemory source h = inr (inr refl)
-  unread text program fault Done source h = absurd h
-  unread text program fault Usage source h = absurd h
-  unread text program fault Rejected source h = absurd h
-  unread text program fault ReadFault source h = absurd h
-  unread text program fault WriteFault source h = absurd h
-  unread text program fault (TooLong long) source h = absurd h
-
-  -- a text that is to be refused is refused for its cause, where it is refused before its program was read
-  early : (line : CommandLine) (text : List ℕ) (fault : SourceFault) (end : End) → IsRefusal line text fault → Sources text (Err end) → EndsWith fault end
-  early line text (Lex at) end is h = refused text (Lex at) end is h
-  early line text (Parse at) end is h = refused text (Parse at) end is h
-  early line text (Scope kind at) end is h = refused text (Scope kind at) end is h
-  early line text (Typing kind at) end is h = refused text (Typing kind at) end is h
-  early line text (Descent def call) end is h = refused text (Descent def call) end is h
-  early (Check file) text Unbuilt end is h = absurd is
-  early (Replay file derivation) text Unbuilt end is h = unread text is.program Unbuilt end is.is_source h
-
-  goes_untaken : (files : FilesSeen) (out : SinkSeen) (line : CommandLine) (text printed : List ℕ) (program : AnyProgram) (end : End) → IsUntaken line text → IsSource text program
-      → Goes files out line program end printed → EndsWith Unbuilt end
-  goes_untaken files out (Check file) text printed program end is source h = absurd is
-  goes_untaken files out (Replay file derivation) text printed program end is source (inl (takes, _)) = inl (not_taken program end takes).0
-  goes_untaken files out (Replay file derivation) text printed program end is source (inr (taken, plain, _)) =
-      absurd (is.other (subst IsPlainProgram (one_source text program is.program source is.is_source) plain))
-
-  -- so where it is refused after its program was read
-  late : (files : FilesSeen) (out : SinkSeen) (line : CommandLine) (text printed : List ℕ) (program : AnyProgram) (fault : SourceFault) (end : End) → IsRefusal line text fault → IsSource text program
-      → Goes files out line program end printed → EndsWith fault end
-  late files out line text printed program (Lex at) end is source h = absurd (never_both text program (Lex at) source is)
-  late files out line text printed program (Parse at) end is source h = absurd (never_both text program (Parse at) source is)
-  late files out line text printed program (Scope kind at) end is source h = absurd (never_both text program (Scope kind at) source is)
-  late files out line text printed program (Typing kind at) end is source h = absurd (never_both text program (Typing kind at) source is)
-  late files out line text printed program (Descent def call) end is source h = absurd (never_both text program (Descent def call) source is)
-  late files out line text printed program Unbuilt end is source h = goes_untaken files out line text printed program end is source h
-
   faulty_ends : (files : FilesSeen) (out : SinkSeen) (line : CommandLine) (printed text : List ℕ) (fault : SourceFault) (end : End) → files.bytes (program_of line) ≡ Some text → length text ≤ limit_of Program
-      → IsRefusal line text fault → Begins files out line end printed → EndsWith fault end
+      → IsSourceFault text fault → Begins files out line end printed → EndsWith fault end
   faulty_ends files out line printed text fault end known fits is (inr (bytes, read, inl (source, _))) =
       let same : bytes ≡ text = told_is (files.bytes (program_of line)) text bytes known read.0 in
-      early line bytes fault end (subst (λ (b : List ℕ). IsRefusal line b fault) (sym same) is) source
+      refused bytes fault end (subst (λ (b : List ℕ). IsSourceFault b fault) (sym same) is) source
   faulty_ends files out line printed text fault end known fits is (inr (bytes, read, inr (program, source, goes))) =
       let same : bytes ≡ text = told_is (files.bytes (program_of line)) text bytes known read.0 in
-      late files out line bytes printed program fault end (subst (λ (b : List ℕ). IsRefusal line b fault) (sym same) is) source goes
+      absurd (never_both bytes program fault source (subst (λ (b : List ℕ). IsSourceFault b fault) (sym same) is))
   faulty_ends files out line printed text fault (TooLong long) known fits is (inl ((_, (came, consumed, above)), _)) = absurd (not_longer (files.bytes (program_of line)) text (limit_of Program) known fits (longer (files.bytes (program_of line)) files.left came (limit_of Program) consumed above))
   faulty_ends files out line printed text fault ReadFault known fits is (inl h) = inr (inl refl)
   faulty_ends files out line printed text fault NoMemory known fits is (inl h) = inr (inr refl)
   faulty_ends files out line printed text fault Done known fits is (inl (h, _)) = absurd h
   faulty_ends files out line printed text fault Usage known fits is (inl (h, _)) = absurd h
   faulty_ends files out line printed text fault (Source found) known fits is (inl (h, _)) = absurd h
-  faulty_ends files out line printed text fault Rejected known fits is (inl (h, _)) = absurd h
+  faulty_ends files out line printed text fault (Rejected number why) known fits is (inl (h, _)) = absurd h
   faulty_ends files out line printed text fault WriteFault known fits is (inl (h, _)) = absurd h
 
   pub faulty_is_source : FaultyIsSource
@@ -387,10 +298,9 @@ module _ (one_source : OneSource) (one_fault : OneSourceFault) (never_both : Nev
 -- a program that was read goes on to no fault of reading without its cause
 goes_fault : (files : FilesSeen) (out : SinkSeen) (line : CommandLine) (program : AnyProgram) (printed : List ℕ) → Goes files out line program ReadFault printed → Rose files.before files.after
 goes_fault files out (Check file) program printed h = absurd h
-goes_fault files out (Replay file derivation) program printed (inl (h, _)) = absurd h
-goes_fault files out (Replay file derivation) program printed (inr (taken, _, inl (reads, _))) = reads.0
-goes_fault files out (Replay file derivation) program printed (inr (taken, _, inr (bytes, _, inl (h, _)))) = absurd h
-goes_fault files out (Replay file derivation) program printed (inr (taken, _, inr (bytes, _, inr (n, _, h)))) = absurd h
+goes_fault files out (Replay file derivation) program printed (inl (reads, _)) = reads.0
+goes_fault files out (Replay file derivation) program printed (inr (bytes, _, inl (h, _))) = absurd h
+goes_fault files out (Replay file derivation) program printed (inr (bytes, _, inr (n, _, h))) = absurd h
 
 read_fault : (files : FilesSeen) (out : SinkSeen) (line : CommandLine) (printed : List ℕ) → Begins files out line ReadFault printed → Rose files.before files.after
 read_fault files out line printed (inl (reads, _)) = reads.0
@@ -404,9 +314,8 @@ read_fault_rose files out line printed h = read_fault files out line printed (be
 goes_unwritten : (files : FilesSeen) (out : SinkSeen) (line : CommandLine) (program : AnyProgram) (printed : List ℕ) → Goes files out line program WriteFault printed → Rose out.before out.after
 goes_unwritten files out (Check file) program printed h = h.0
 goes_unwritten files out (Replay file derivation) program printed (inl (h, _)) = absurd h
-goes_unwritten files out (Replay file derivation) program printed (inr (taken, _, inl (h, _))) = absurd h
-goes_unwritten files out (Replay file derivation) program printed (inr (taken, _, inr (bytes, _, inl (h, _)))) = absurd h
-goes_unwritten files out (Replay file derivation) program printed (inr (taken, _, inr (bytes, _, inr (n, _, h)))) = h.0
+goes_unwritten files out (Replay file derivation) program printed (inr (bytes, _, inl (h, _))) = absurd h
+goes_unwritten files out (Replay file derivation) program printed (inr (bytes, _, inr (n, _, h))) = h.0
 
 unwritten : (files : FilesSeen) (out : SinkSeen) (line : CommandLine) (printed : List ℕ) → Begins files out line WriteFault printed → Rose out.before out.after
 unwritten files out line printed (inl (h, _)) = absurd h

@@ -1,18 +1,13 @@
 -- The stages of a command: what a `?` passes on, and what a later stage shows of the whole call.
 use Rattle.std.proofs.Common.{◌≡◌, ◌≤◌, ℕ, List, Option, Result, Ok, Err, IsErrAnd, arith, subst, sym}
 use Rattle.px_world.specs.declared.files.Files as files
-use Rattle.px_terms.specs.declared.program.Program.{Program}
-use Rattle.px_terms.specs.PlainSpelling.{IsDerivationText}
-use Rattle.px_plain_replay.specs.declared.replay.ReplayEnd.{ReplayEnd}
-use Rattle.px_plain_replay.specs.declared.replay.ReplayEnd.TheVariants as replaying
 use Rattle.px_drive.specs.declared.outcome.CommandLine.{CommandLine}
 use Rattle.px_drive.specs.declared.outcome.Which.{Which}
 use Rattle.px_drive.specs.declared.outcome.End.{End}
 use Rattle.px_drive.specs.declared.outcome.End.TheVariants.{Done, Usage, Source, Rejected, ReadFault, WriteFault, NoMemory, TooLong}
 use Rattle.px_drive.specs.Lines.{ReadsLine}
 use Rattle.px_drive.specs.Seen.{FilesSeen, SinkSeen, files_seen, KeepsFiles}
-use Rattle.px_drive.specs.Refusals.{end_of_replaying}
-use Rattle.px_drive.specs.Ends.{ReadsText, Accepts, Runs, end_of}
+use Rattle.px_drive.specs.Ends.{ReadsText, Runs, end_of}
 
 -- a `?` hands an end on as it is
 pub passed_on : {files : FilesSeen} {out : SinkSeen} {line : CommandLine} (result : Result (Unit {0}) End) (end : End) → IsErrAnd result (λ e. e ≡ end) → Runs files out line end → Runs files out line (end_of result)
@@ -23,16 +18,6 @@ passed_on {files} {out} {line} (Err e) end is runs = subst (Runs files out line)
 pub no_line : (plain : Option CommandLine) (result : Result CommandLine End) → IsErrAnd result (λ end. end ≡ NoMemory) → ReadsLine plain result
 no_line plain (Ok line) is = absurd is
 no_line plain (Err end) is = subst (λ (e : End). ReadsLine plain (Err e)) (sym is) tt
-
--- bytes that are rejected are no derivation of the program
-pub not_accepted : (program : Program) (bytes : List ℕ) (result : Result ℕ End) (refusal : ReplayEnd) → (IsDerivationText program bytes → refusal ≡ replaying.NoMemory)
-    → IsErrAnd result (λ end. end ≡ end_of_replaying refusal) → Accepts program bytes result
-not_accepted program bytes (Ok n) refusal only is = absurd is
-not_accepted program bytes (Err end) replaying.NoMemory only is = subst (λ (e : End). Accepts program bytes (Err e)) (sym is) tt
-not_accepted program bytes (Err end) replaying.Rejected only is = subst (λ (e : End). Accepts program bytes (Err e)) (sym is) none
-  where
-    none : IsDerivationText program bytes → ⊥
-    none derivation = let differ : replaying.Rejected ≡ replaying.NoMemory = only derivation in cc
 
 -- a later text is read from the files as they stood when the call began
 pub read_later : {F : Type 0} (device : files.Ghosts F) (old mid new : F) (text : Which) (name : List ℕ) (result : Result (List ℕ) End) → KeepsFiles device old mid
@@ -49,5 +34,5 @@ read_later {F} device old mid new text name result keeps reads = by_result resul
     by_result (Err Done) is = is
     by_result (Err Usage) is = is
     by_result (Err (Source fault)) is = is
-    by_result (Err Rejected) is = is
+    by_result (Err (Rejected number why)) is = is
     by_result (Err WriteFault) is = is

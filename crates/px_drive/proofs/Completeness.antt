@@ -1,8 +1,6 @@
 -- A line whose work can be done is done, where no count of faults rose.
 use Rattle.std.proofs.Common.{◌≡◌, ℕ, ◌⊎◌, List, Option, None, Some, Result, Ok, Err, inl, inr, refl, ap, subst, sym, ◌∙◌}
 use Rattle.px_terms.specs.declared.program.Program.{Program}
-use Rattle.px_terms.specs.Plain.{IsPlainProgram}
-use Rattle.px_terms.specs.PlainSpelling.{IsDerivationText}
 use Rattle.px_world.specs.Faults.{Rose}
 use Rattle.px_drive.specs.declared.outcome.CommandLine.{CommandLine}
 use Rattle.px_drive.specs.declared.outcome.CommandLine.TheVariants.{Check, Replay}
@@ -16,10 +14,11 @@ use Rattle.px_drive.specs.Messages.{checked_line, accepted_line}
 use Rattle.px_drive.specs.Seen.{FilesSeen, SinkSeen}
 use Rattle.px_drive.specs.Ends.{limit_of, ReadsText, Accepts, Prints, LineEnds}
 use Rattle.px_drive.specs.Sources.{IsSource, Sources}
-use Rattle.px_drive.specs.Laws.{OneSource, NeverBoth}
+use Rattle.px_drive.specs.Derivations.{IsDerivationOf}
+use Rattle.px_drive.specs.Laws.{OneSource, NeverBoth, NeverRejected}
 use Rattle.px_drive.specs.Answers.{Ends, Tells, IsAnswer}
 use Rattle.px_drive.specs.Completeness.{NoneRose, HasText, CanBeDone, checked, replayed, IsDone, IsComplete}
-use Rattle.px_drive.proofs.Causes.{longer, told_is, not_longer, not_taken}
+use Rattle.px_drive.proofs.Causes.{longer, told_is, not_longer}
 
 -- a text that is told and within its limit is read whole, but for want of memory
 read_whole : (text : Which) (files : FilesSeen) (name bytes : List ℕ) (result : Result (List ℕ) End) → HasText files text name bytes → ¬ Rose files.before files.after → ReadsText text files name result → (result ≡ Ok bytes) ⊎ (result ≡ Err NoMemory)
@@ -30,7 +29,7 @@ read_whole text files name bytes (Err NoMemory) has calm reads = inr refl
 read_whole text files name bytes (Err Done) has calm reads = absurd reads
 read_whole text files name bytes (Err Usage) has calm reads = absurd reads
 read_whole text files name bytes (Err (Source fault)) has calm reads = absurd reads
-read_whole text files name bytes (Err Rejected) has calm reads = absurd reads
+read_whole text files name bytes (Err (Rejected number why)) has calm reads = absurd reads
 read_whole text files name bytes (Err WriteFault) has calm reads = absurd reads
 
 no_memory : (result : Result (List ℕ) End) (end : End) (bytes : List ℕ) → result ≡ Err end → (result ≡ Ok bytes) ⊎ (result ≡ Err NoMemory) → end ≡ NoMemory
@@ -47,20 +46,20 @@ source_ends never_both text program (Source fault) source h = absurd (never_both
 source_ends never_both text program NoMemory source h = inr refl
 source_ends never_both text program Done source h = absurd h
 source_ends never_both text program Usage source h = absurd h
-source_ends never_both text program Rejected source h = absurd h
+source_ends never_both text program (Rejected number why) source h = absurd h
 source_ends never_both text program ReadFault source h = absurd h
 source_ends never_both text program WriteFault source h = absurd h
 source_ends never_both text program (TooLong long) source h = absurd h
 
-accepts_ends : (program : Program) (bytes : List ℕ) (end : End) → IsDerivationText program bytes → Accepts program bytes (Err end) → IsDone end
-accepts_ends program bytes Rejected derivation h = absurd (h derivation)
-accepts_ends program bytes NoMemory derivation h = inr refl
-accepts_ends program bytes Done derivation h = absurd h
-accepts_ends program bytes Usage derivation h = absurd h
-accepts_ends program bytes (Source fault) derivation h = absurd h
-accepts_ends program bytes ReadFault derivation h = absurd h
-accepts_ends program bytes WriteFault derivation h = absurd h
-accepts_ends program bytes (TooLong text) derivation h = absurd h
+accepts_ends : NeverRejected → (program : Program) (bytes : List ℕ) (end : End) → IsDerivationOf program bytes → Accepts program bytes (Err end) → IsDone end
+accepts_ends never program bytes (Rejected number why) derivation h = absurd (never program bytes number why derivation h)
+accepts_ends never program bytes NoMemory derivation h = inr refl
+accepts_ends never program bytes Done derivation h = absurd h
+accepts_ends never program bytes Usage derivation h = absurd h
+accepts_ends never program bytes (Source fault) derivation h = absurd h
+accepts_ends never program bytes ReadFault derivation h = absurd h
+accepts_ends never program bytes WriteFault derivation h = absurd h
+accepts_ends never program bytes (TooLong text) derivation h = absurd h
 
 prints_ends : (line : List ℕ) (out : SinkSeen) (end : End) (printed : List ℕ) → ¬ Rose out.before out.after → Prints line out end printed → IsDone end
 prints_ends line out Done printed calm h = inl refl
@@ -68,7 +67,7 @@ prints_ends line out WriteFault printed calm h = absurd (calm h.0)
 prints_ends line out NoMemory printed calm h = absurd h
 prints_ends line out Usage printed calm h = absurd h
 prints_ends line out (Source fault) printed calm h = absurd h
-prints_ends line out Rejected printed calm h = absurd h
+prints_ends line out (Rejected number why) printed calm h = absurd h
 prints_ends line out ReadFault printed calm h = absurd h
 prints_ends line out (TooLong text) printed calm h = absurd h
 
@@ -80,53 +79,50 @@ module _ (files : FilesSeen) (calm : ¬ Rose files.before files.after) (which : 
   is_read : (read : List ℕ) → ReadsText which files name (Ok read) → text ≡ read
   is_read read reads = sym (same_bytes (Ok read) read text refl (read_whole which files name text (Ok read) has calm reads))
 
-module _ (one_source : OneSource) (never_both : NeverBoth) (files : FilesSeen) (out : SinkSeen) (calm : ¬ Rose files.before files.after) (calm_out : ¬ Rose out.before out.after) where
+module _ (one_source : OneSource) (never_both : NeverBoth) (never_rejected : NeverRejected) (files : FilesSeen) (out : SinkSeen) (calm : ¬ Rose files.before files.after) (calm_out : ¬ Rose out.before out.after) where
   check_done : (file text : List ℕ) (program : Program) (end : End) (printed : List ℕ) → HasText files which.Program file text → IsSource text program → LineEnds files out (Check file) end printed → IsDone end
   check_done file text program end printed has source (inl (reads, _)) = reading_done files calm which.Program file text has end reads
   check_done file text program end printed has source (inr (read, reads, inl (refuses, _))) =
       source_ends never_both read program end (subst (λ (bytes : List ℕ). IsSource bytes program) (is_read files calm which.Program file text has read reads) source) refuses
   check_done file text program end printed has source (inr (read, reads, inr (found, _, prints))) = prints_ends (checked_line found) out end printed calm_out prints
 
-  replay_done : (file derivation text steps : List ℕ) (program : Program) (end : End) (printed : List ℕ) → HasText files which.Program file text → HasText files which.Derivation derivation steps → IsSource text program → IsPlainProgram program → IsDerivationText program steps → LineEnds files out (Replay file derivation) end printed → IsDone end
-  replay_done file derivation text steps program end printed has has_steps source plain derives (inl (reads, _)) = reading_done files calm which.Program file text has end reads
-  replay_done file derivation text steps program end printed has has_steps source plain derives (inr (read, reads, inl (refuses, _))) =
+  replay_done : (file derivation text steps : List ℕ) (program : Program) (end : End) (printed : List ℕ) → HasText files which.Program file text → HasText files which.Derivation derivation steps → IsSource text program → IsDerivationOf program steps → LineEnds files out (Replay file derivation) end printed → IsDone end
+  replay_done file derivation text steps program end printed has has_steps source derives (inl (reads, _)) = reading_done files calm which.Program file text has end reads
+  replay_done file derivation text steps program end printed has has_steps source derives (inr (read, reads, inl (refuses, _))) =
       source_ends never_both read program end (subst (λ (bytes : List ℕ). IsSource bytes program) (is_read files calm which.Program file text has read reads) source) refuses
-  replay_done file derivation text steps program end printed has has_steps source plain derives (inr (read, reads, inr (found, finds, inl (takes, _)))) =
-      let here : IsSource read program = subst (λ (bytes : List ℕ). IsSource bytes program) (is_read files calm which.Program file text has read reads) source in
-      absurd ((not_taken found end takes).1 (subst IsPlainProgram (one_source read program found here finds) plain))
-  replay_done file derivation text steps program end printed has has_steps source plain derives (inr (read, _, inr (found, _, inr (taken, _, inl (reads, _))))) = reading_done files calm which.Derivation derivation steps has_steps end reads
-  replay_done file derivation text steps program end printed has has_steps source plain derives (inr (read, reads, inr (found, finds, inr (taken, _, inr (rows, rows_read, inl (accepts, _)))))) =
+  replay_done file derivation text steps program end printed has has_steps source derives (inr (read, _, inr (found, _, inl (reads, _)))) = reading_done files calm which.Derivation derivation steps has_steps end reads
+  replay_done file derivation text steps program end printed has has_steps source derives (inr (read, reads, inr (found, finds, inr (rows, rows_read, inl (accepts, _))))) =
       let here : IsSource read program = subst (λ (bytes : List ℕ). IsSource bytes program) (is_read files calm which.Program file text has read reads) source in
       let one : program ≡ found = one_source read program found here finds in
-      let derived : IsDerivationText program rows = subst (IsDerivationText program) (is_read files calm which.Derivation derivation steps has_steps rows rows_read) derives in
-      accepts_ends found rows end (subst (λ (P : Program). IsDerivationText P rows) one derived) accepts
-  replay_done file derivation text steps program end printed has has_steps source plain derives (inr (read, _, inr (found, _, inr (taken, _, inr (rows, _, inr (n, _, prints)))))) = prints_ends (accepted_line n) out end printed calm_out prints
+      let derived : IsDerivationOf program rows = subst (IsDerivationOf program) (is_read files calm which.Derivation derivation steps has_steps rows rows_read) derives in
+      accepts_ends never_rejected found rows end (subst (λ (P : Program). IsDerivationOf P rows) one derived) accepts
+  replay_done file derivation text steps program end printed has has_steps source derives (inr (read, _, inr (found, _, inr (rows, _, inr (n, _, prints))))) = prints_ends (accepted_line n) out end printed calm_out prints
 
   line_done : (line : CommandLine) (end : End) (printed : List ℕ) → CanBeDone files line → LineEnds files out line end printed → IsDone end
   line_done _ end printed (checked {file = file} text program has source) ends = check_done file text program end printed has source ends
-  line_done _ end printed (replayed {file = file} {derivation = derivation} text steps program has has_steps source plain derives) ends = replay_done file derivation text steps program end printed has has_steps source plain derives ends
+  line_done _ end printed (replayed {file = file} {derivation = derivation} text steps program has has_steps source derives) ends = replay_done file derivation text steps program end printed has has_steps source derives ends
 
 unread_done : (words : List (List ℕ)) (line : CommandLine) (end : End) → line_of words ≡ Some line → ReadsLine (line_of words) (Err end) → IsDone end
 unread_done words line Usage is none = cc
 unread_done words line NoMemory is h = inr refl
 unread_done words line Done is h = absurd h
 unread_done words line (Source fault) is h = absurd h
-unread_done words line Rejected is h = absurd h
+unread_done words line (Rejected number why) is h = absurd h
 unread_done words line ReadFault is h = absurd h
 unread_done words line WriteFault is h = absurd h
 unread_done words line (TooLong text) is h = absurd h
 
-allowed_done : OneSource → NeverBoth → (words : List (List ℕ)) (files : FilesSeen) (out err : SinkSeen) (kept : Option CommandLine) (end : End) (line : CommandLine) → NoneRose files out err → line_of words ≡ Some line → CanBeDone files line → Ends words files out kept end → IsDone end
-allowed_done one_source never_both words files out err None end line calm is can ends = unread_done words line end is ends.0
-allowed_done one_source never_both words files out err (Some kept) end line calm is can ends =
+allowed_done : OneSource → NeverBoth → NeverRejected → (words : List (List ℕ)) (files : FilesSeen) (out err : SinkSeen) (kept : Option CommandLine) (end : End) (line : CommandLine) → NoneRose files out err → line_of words ≡ Some line → CanBeDone files line → Ends words files out kept end → IsDone end
+allowed_done one_source never_both never_rejected words files out err None end line calm is can ends = unread_done words line end is ends.0
+allowed_done one_source never_both never_rejected words files out err (Some kept) end line calm is can ends =
     let same : kept ≡ line = let both : Some kept ≡ Some line = sym ends.0 ∙ is in cc in
-    line_done one_source never_both files out calm.files_rest calm.out_rests kept end ends.1.printed (subst (CanBeDone files) (sym same) can) ends.1.allowed
+    line_done one_source never_both never_rejected files out calm.files_rest calm.out_rests kept end ends.1.printed (subst (CanBeDone files) (sym same) can) ends.1.allowed
 
 told_stays : (told : End) (err : SinkSeen) (end : End) → ¬ Rose err.before err.after → Tells told err end → end ≡ told
 told_stays told err end calm (inl tells) = tells.0
 told_stays told err end calm (inr tells) = absurd (calm tells.2)
 
 -- a plain line whose work can be done ends Done where no count rose, but for want of memory
-pub answer_done : OneSource → NeverBoth → (words : List (List ℕ)) (files : FilesSeen) (out err : SinkSeen) (outcome : Outcome) → IsAnswer words files out err outcome → IsComplete words files out err outcome.end
-answer_done one_source never_both words files out err outcome answer line is can calm =
-    subst IsDone (sym (told_stays answer.told err outcome.end calm.err_rests answer.tells)) (allowed_done one_source never_both words files out err outcome.line answer.told line calm is can answer.allowed)
+pub answer_done : OneSource → NeverBoth → NeverRejected → (words : List (List ℕ)) (files : FilesSeen) (out err : SinkSeen) (outcome : Outcome) → IsAnswer words files out err outcome → IsComplete words files out err outcome.end
+answer_done one_source never_both never_rejected words files out err outcome answer line is can calm =
+    subst IsDone (sym (told_stays answer.told err outcome.end calm.err_rests answer.tells)) (allowed_done one_source never_both never_rejected words files out err outcome.line answer.told line calm is can answer.allowed)

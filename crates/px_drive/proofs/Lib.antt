@@ -1,5 +1,8 @@
 pub mod Pieces
 pub mod Sources
+pub mod Cuts
+pub mod Rejections
+pub mod Feedings
 pub mod Chains
 pub mod Causes
 pub mod Truths

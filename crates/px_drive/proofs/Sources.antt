@@ -5,7 +5,7 @@ use Rattle.px_base.specs.declared.raw.RawProgram.{RawProgram}
 use Rattle.px_base.specs.Fitting.{IsFitting}
 use Rattle.px_terms.specs.declared.program.Program.{Program}
 use Rattle.px_terms.specs.Descent.{AllDescend}
-use Rattle.px_plain.specs.Laws.{DerivationsAreSound}
+use Rattle.px_soundness.specs.Laws.{DerivationsAreSound}
 use Rattle.px_lexer.specs.declared.token.Token.{Token}
 use Rattle.px_lexer.specs.declared.scan.LexEnd.{LexEnd}
 use Rattle.px_lexer.specs.declared.scan.LexEnd.TheVariants as lexing
@@ -36,7 +36,7 @@ use Rattle.px_descent.specs.declared.end.NoDescent.{NoDescent}
 use Rattle.px_descent.specs.Ends.{NamesFirst}
 use Rattle.px_descent.specs.Laws as descent
 use Rattle.px_drive.specs.declared.outcome.End.{End}
-use Rattle.px_drive.specs.declared.outcome.SourceFault.TheVariants.{Lex, Parse, Scope, Typing, Descent, Unbuilt}
+use Rattle.px_drive.specs.declared.outcome.SourceFault.TheVariants.{Lex, Parse, Scope, Typing, Descent}
 use Rattle.px_drive.specs.Sources.{IsNumbered, IsSource, IsParseFault, IsScopeFault, IsTypingFault, IsDescentFault, IsSourceFault, Sources}
 use Rattle.px_drive.specs.Refusals.{end_of_lexing, end_of_parsing, end_of_scoping, end_of_typing, end_of_descent}
 use Rattle.px_drive.specs.Laws.{OneSource, OneSourceFault, NeverBoth, ScopeFaultIsFirst, AcceptedIsTrue}
@@ -143,7 +143,6 @@ module _ (laws : AreOne) (never : AreNeverBoth) where
   never_both_law text P (Scope kind at) source fault = no_scope_fault text source.raw kind at source.is_numbered fault
   never_both_law text P (Typing kind at) source fault = no_typing_fault text source.raw P kind at source.is_numbered source.is_typed fault
   never_both_law text P (Descent def call) source fault = no_descent_fault text P def call source fault
-  never_both_law text P Unbuilt source fault = fault
 
   -- tokens that are no program have no lexical fault
   parse_not_lex : (text : List ℕ) (at other : ℕ) → IsParseFault text at → IsSourceFault text (Lex other) → ⊥
@@ -183,7 +182,6 @@ module _ (laws : AreOne) (never : AreNeverBoth) where
     one_source_fault_law text (Scope kind at) (Scope last end) a b = same_scope text kind last at end a b
     one_source_fault_law text (Typing kind at) (Typing last end) a b = same_typing text kind last at end a b
     one_source_fault_law text (Descent def call) (Descent last end) a b = same_descent text def last call end a b
-    one_source_fault_law text Unbuilt other a b = absurd a
     one_source_fault_law text (Lex at) (Parse place) a b = absurd (parse_not_lex text place at b a)
     one_source_fault_law text (Parse at) (Lex place) a b = absurd (parse_not_lex text at place a b)
     one_source_fault_law text (Lex at) (Scope kind place) a b = absurd (no_lex_fault text b.surface at (tree_of_fault b) a)
@@ -204,14 +202,18 @@ module _ (laws : AreOne) (never : AreNeverBoth) where
     one_source_fault_law text (Descent def call) (Scope kind place) a b = absurd (no_scope_fault text a.raw kind place a.is_numbered b)
     one_source_fault_law text (Typing rule at) (Descent def call) a b = absurd (no_typing_fault text b.raw b.program rule at b.is_numbered b.is_typed a)
     one_source_fault_law text (Descent def call) (Typing rule place) a b = absurd (no_typing_fault text a.raw a.program rule place a.is_numbered a.is_typed b)
-    one_source_fault_law text (Lex at) Unbuilt a b = absurd b
-    one_source_fault_law text (Parse at) Unbuilt a b = absurd b
-    one_source_fault_law text (Scope kind at) Unbuilt a b = absurd b
-    one_source_fault_law text (Typing rule at) Unbuilt a b = absurd b
-    one_source_fault_law text (Descent def call) Unbuilt a b = absurd b
 
-pub accepted_is_true_law : DerivationsAreSound → AcceptedIsTrue
-accepted_is_true_law sound text derivation P source plain derived = sound P plain derived.trees derived.derivation
+-- the program of a text is typed and descends, so what is derived of it holds
+module _ (trees_are_fine : parser.TreesAreFine) (numberings_fit : scope.NumberingsFit) (typed : types.ProgramsAreTyped) where
+  fits_of : (text : List ℕ) (raw : RawProgram) → IsNumbered text raw → IsFitting raw
+  fits_of text raw numbered =
+      let fine : parser.IsFine text numbered.surface = trees_are_fine text numbered.tokens numbered.surface numbered.are_tokens numbered.is_tree in
+      let size : length text ≤ PROGRAM_BYTES = numbered.fits in
+      numberings_fit numbered.surface raw (omega (arith, fine.fits, size)) fine.nests fine.filled numbered.is_numbering
+
+  pub accepted_is_true_law : DerivationsAreSound → AcceptedIsTrue
+  accepted_is_true_law sound text derivation P source derived =
+      sound P (record { typed = typed source.raw P (fits_of text source.raw source.is_numbered) source.is_typed; descends = source.descends }) derived.derivation.trees derived.derivation.derivation
 
 -- what stands later among the names stands among them
 one_later : (u : Use) (us : List Use) (other : Use) → Contains us other → Contains (u ∷ us) other

@@ -5,7 +5,7 @@ use Rattle.px_drive.specs.declared.outcome.CommandLine.{CommandLine}
 use Rattle.px_drive.specs.declared.outcome.CommandLine.TheVariants.{Check, Replay}
 use Rattle.px_drive.specs.declared.outcome.End.{End}
 use Rattle.px_drive.specs.declared.outcome.End.TheVariants.{Done, Usage, Source, Rejected, ReadFault, WriteFault, NoMemory, TooLong}
-use Rattle.px_drive.specs.declared.outcome.SourceFault.TheVariants.{Lex, Parse, Scope, Typing, Descent, Unbuilt}
+use Rattle.px_drive.specs.declared.outcome.SourceFault.TheVariants.{Lex, Parse, Scope, Typing, Descent}
 use Rattle.px_drive.specs.declared.outcome.Outcome.{Outcome}
 use Rattle.px_drive.specs.Answers.{Ends, Tells, IsAnswer}
 use Rattle.px_drive.specs.Headline.{Headline, TellsFirstBroken}
@@ -29,7 +29,7 @@ of_line words files out (Some (Check file)) law ends =
     record { text = run.text; program = run.program; text_is = run.text_is; is_source = run.is_source }
 of_line words files out (Some (Replay file derivation)) law ends =
     let run = done_is_replayed files out file derivation ends.1.printed ends.1.allowed in
-    record { text = run.text; program = run.program; text_is = run.text_is; is_source = run.is_source; holds = law run.text run.steps run.program run.is_source run.is_plain run.is_derivation }
+    record { text = run.text; program = run.program; text_is = run.text_is; is_source = run.is_source; holds = law run.text run.steps run.program run.is_source run.is_derivation }
 
 -- where a line ends Done, its text is a program, and what was accepted is true
 pub headline : (words : List (List ℕ)) (files : FilesSeen) (out err : SinkSeen) (outcome : Outcome) → IsAnswer words files out err outcome → AcceptedIsTrue → outcome.end ≡ Done → Headline files.bytes outcome.line
@@ -38,16 +38,15 @@ headline words files out err outcome answer law done = of_line words files out o
 broken_of_line : (words : List (List ℕ)) (files : FilesSeen) (out : SinkSeen) (line : Option CommandLine) (end : End) → ScopeFaultIsFirst → Ends words files out line end → TellsFirstBroken files.bytes line end
 broken_of_line words files out (Some line) (Source (Scope kind at)) law ends =
     let faulty = source_is_faulty files out line ends.1.printed (Scope kind at) ends.1.allowed in
-    record { text = faulty.text; text_is = faulty.text_is; is_first = law faulty.text kind at faulty.is_refusal }
+    record { text = faulty.text; text_is = faulty.text_is; is_first = law faulty.text kind at faulty.is_fault }
 broken_of_line words files out None (Source (Scope kind at)) law ends = absurd ends.0
 broken_of_line words files out line (Source (Lex at)) law ends = tt
 broken_of_line words files out line (Source (Parse at)) law ends = tt
 broken_of_line words files out line (Source (Typing kind at)) law ends = tt
 broken_of_line words files out line (Source (Descent def call)) law ends = tt
-broken_of_line words files out line (Source Unbuilt) law ends = tt
 broken_of_line words files out line Done law ends = tt
 broken_of_line words files out line Usage law ends = tt
-broken_of_line words files out line Rejected law ends = tt
+broken_of_line words files out line (Rejected number why) law ends = tt
 broken_of_line words files out line ReadFault law ends = tt
 broken_of_line words files out line WriteFault law ends = tt
 broken_of_line words files out line NoMemory law ends = tt

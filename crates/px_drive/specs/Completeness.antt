@@ -1,8 +1,6 @@
 -- Where a line does its work: what is enough for it to end Done.
 use Rattle.std.specs.Prelude.{◌≡◌, ◌≤◌, ◌⊎◌, ℕ, List, length, Some}
 use Rattle.px_terms.specs.declared.program.Program.{Program}
-use Rattle.px_terms.specs.Plain.{IsPlainProgram}
-use Rattle.px_terms.specs.PlainSpelling.{IsDerivationText}
 use Rattle.px_world.specs.Faults.{Rose}
 use Rattle.px_drive.specs.declared.outcome.CommandLine.{CommandLine}
 use Rattle.px_drive.specs.declared.outcome.CommandLine.TheVariants.{Check, Replay}
@@ -14,6 +12,7 @@ use Rattle.px_drive.specs.Lines.{line_of}
 use Rattle.px_drive.specs.Seen.{FilesSeen, SinkSeen}
 use Rattle.px_drive.specs.Ends.{limit_of}
 use Rattle.px_drive.specs.Sources.{IsSource}
+use Rattle.px_drive.specs.Derivations.{IsDerivationOf}
 
 -- no count of faults rose in the call
 pub record NoneRose (files : FilesSeen) (out err : SinkSeen) : Type 0 where
@@ -29,7 +28,7 @@ pub record HasText (files : FilesSeen) (which : Which) (name text : List ℕ) : 
 -- the line's texts are told and within their limits, and they ask for work that can be done: a row for each command
 pub data CanBeDone (files : FilesSeen) : CommandLine → Type 0 where
   checked : {file : List ℕ} (text : List ℕ) (program : Program) → HasText files which.Program file text → IsSource text program → CanBeDone files (Check file)
-  replayed : {file derivation : List ℕ} (text steps : List ℕ) (program : Program) → HasText files which.Program file text → HasText files which.Derivation derivation steps → IsSource text program → IsPlainProgram program → IsDerivationText program steps → CanBeDone files (Replay file derivation)
+  replayed : {file derivation : List ℕ} (text steps : List ℕ) (program : Program) → HasText files which.Program file text → HasText files which.Derivation derivation steps → IsSource text program → IsDerivationOf program steps → CanBeDone files (Replay file derivation)
 
 -- the work is done, but for want of memory
 abbrev pub IsDone : End → Type 0

@@ -4,8 +4,6 @@ use Rattle.std.specs.Prelude.{◌≡◌, ℕ, ◌<◌, ◌≤◌, ◌⊎◌, Lis
 use Rattle.std.specs.Io.KnownBytes.{Appends, Consumes}
 use Rattle.px_terms.specs.declared.program.Program.{Program}
 use Rattle.px_terms.specs.limits.TheConstants.{PROGRAM_BYTES, DERIVATION_BYTES}
-use Rattle.px_terms.specs.Plain.{IsPlainProgram}
-use Rattle.px_terms.specs.PlainSpelling.{IsDerivationText}
 use Rattle.px_world.specs.Known.{Told}
 use Rattle.px_world.specs.Faults.{Rose}
 use Rattle.px_drive.specs.declared.outcome.CommandLine.{CommandLine}
@@ -14,10 +12,10 @@ use Rattle.px_drive.specs.declared.outcome.Which.{Which}
 use Rattle.px_drive.specs.declared.outcome.Which.TheVariants as which
 use Rattle.px_drive.specs.declared.outcome.End.{End}
 use Rattle.px_drive.specs.declared.outcome.End.TheVariants.{Done, Source, Rejected, ReadFault, WriteFault, NoMemory, TooLong}
-use Rattle.px_drive.specs.declared.outcome.SourceFault.TheVariants.{Unbuilt}
 use Rattle.px_drive.specs.Messages.{checked_line, accepted_line}
 use Rattle.px_drive.specs.Seen.{FilesSeen, SinkSeen}
 use Rattle.px_drive.specs.Sources.{Sources}
+use Rattle.px_drive.specs.Derivations.{IsDerivationOf, IsRejected}
 
 -- how many bytes a text may have
 abbrev pub limit_of : Which → ℕ
@@ -33,16 +31,10 @@ ReadsText text files name (Err ReadFault) = Rose files.before files.after × (Is
 ReadsText text files name (Err NoMemory) = ⊤
 ReadsText text files name (Err _) = ⊥
 
--- the program is one over truth values, and is taken; or it is another, and is not taken yet
-abbrev pub TakesProgram : Program → Result (Unit {0}) End → Type 0
-TakesProgram program (Ok _) = IsPlainProgram program
-TakesProgram program (Err (Source Unbuilt)) = ¬ IsPlainProgram program
-TakesProgram program (Err _) = ⊥
-
--- the number of obligations of a program of which the bytes are a derivation; or the bytes are none
+-- the number of obligations of a program of which the bytes are a derivation; or the line with which they are none, and why
 abbrev pub Accepts : Program → List ℕ → Result ℕ End → Type 0
-Accepts program bytes (Ok n) = IsDerivationText program bytes × (n ≡ length program.declared)
-Accepts program bytes (Err Rejected) = ¬ IsDerivationText program bytes
+Accepts program bytes (Ok n) = IsDerivationOf program bytes × (n ≡ length program.declared)
+Accepts program bytes (Err (Rejected line why)) = IsRejected program bytes line why
 Accepts program bytes (Err NoMemory) = ⊤
 Accepts program bytes (Err _) = ⊥
 
@@ -65,10 +57,9 @@ LineEnds files out (Check file) =
 LineEnds files out (Replay file derivation) =
     AndThen (ReadsText which.Program files file) (λ text.
     AndThen (Sources text) (λ program.
-    AndThen (TakesProgram program) (λ taken.
     AndThen (ReadsText which.Derivation files derivation) (λ bytes.
     AndThen (Accepts program bytes) (λ n.
-    Prints (accepted_line n) out)))))
+    Prints (accepted_line n) out))))
 
 -- a line ends so, and the sink gained what the line printed
 pub record Runs (files : FilesSeen) (out : SinkSeen) (line : CommandLine) (end : End) : Type 0 where

@@ -1,9 +1,9 @@
 -- What the sources of programs are, and what the table of causes says of every call.
 use Rattle.std.specs.Prelude.{◌≡◌, ◌≢◌, ℕ, ◌<◌, ◌≤◌, ◌⊎◌, List, [], length, ⊤, Option, None, Some}
 use Rattle.px_terms.specs.declared.program.Program.{Program}
-use Rattle.px_terms.specs.Obligations.{AllHold}
-use Rattle.px_terms.specs.Plain.{IsPlainProgram}
-use Rattle.px_terms.specs.PlainSpelling.{IsDerivationText}
+use Rattle.px_terms.specs.Obligations.{AllHoldInExtensions}
+use Rattle.px_descent.specs.Checked.{IsChecked as HoldsChecked}
+use Rattle.px_replay.specs.declared.ends.Why.{Why}
 use Rattle.px_world.specs.Known.{Told, IsLonger}
 use Rattle.px_scope.specs.declared.ends.ScopeKind.{ScopeKind}
 use Rattle.px_drive.specs.declared.outcome.CommandLine.{CommandLine}
@@ -12,11 +12,12 @@ use Rattle.px_drive.specs.declared.outcome.Which.TheVariants as which
 use Rattle.px_drive.specs.declared.outcome.End.{End}
 use Rattle.px_drive.specs.declared.outcome.End.TheVariants.{Done, Usage, Source, Rejected, ReadFault, WriteFault, NoMemory, TooLong}
 use Rattle.px_drive.specs.declared.outcome.SourceFault.{SourceFault}
-use Rattle.px_drive.specs.declared.outcome.SourceFault.TheVariants.{Scope, Unbuilt}
+use Rattle.px_drive.specs.declared.outcome.SourceFault.TheVariants.{Scope}
 use Rattle.px_drive.specs.Lines.{line_of, program_of}
 use Rattle.px_drive.specs.Messages.{checked_line, accepted_line}
 use Rattle.px_drive.specs.Seen.{FilesSeen, SinkSeen}
-use Rattle.px_drive.specs.Sources.{IsSource, IsSourceFault, IsUnbuilt, IsFirstBroken}
+use Rattle.px_drive.specs.Sources.{IsSource, IsSourceFault, IsFirstBroken}
+use Rattle.px_drive.specs.Derivations.{IsDerivationOf, IsRejected}
 use Rattle.px_drive.specs.Ends.{limit_of, LineEnds}
 use Rattle.px_drive.specs.Answers.{Ends}
 
@@ -36,9 +37,17 @@ NeverBoth = (text : List ℕ) (P : Program) (fault : SourceFault) → IsSource t
 abbrev pub ScopeFaultIsFirst : Type 0
 ScopeFaultIsFirst = (text : List ℕ) (kind : ScopeKind) (at : ℕ) → IsSourceFault text (Scope kind at) → IsFirstBroken text kind at
 
--- a derivation of the program of a text, which is one over truth values, shows that each of its obligations holds
+-- no text is a derivation of a program and is rejected
+abbrev pub NeverRejected : Type 0
+NeverRejected = (P : Program) (text : List ℕ) (line : ℕ) (why : Why) → IsDerivationOf P text → ¬ IsRejected P text line why
+
+-- of a checked program, a text is rejected at one line at most, for one reason
+abbrev pub OneRejection : Type 0
+OneRejection = (P : Program) (text : List ℕ) (line other : ℕ) (why reason : Why) → HoldsChecked P → IsRejected P text line why → IsRejected P text other reason → (line ≡ other) × (why ≡ reason)
+
+-- a derivation of the program of a text shows that each of its obligations holds, in every extension of the program
 abbrev pub AcceptedIsTrue : Type 0
-AcceptedIsTrue = (text derivation : List ℕ) (P : Program) → IsSource text P → IsPlainProgram P → IsDerivationText P derivation → AllHold P
+AcceptedIsTrue = (text derivation : List ℕ) (P : Program) → IsSource text P → IsDerivationOf P derivation → AllHoldInExtensions P
 
 -- Usage comes only where the words are no plain line, and there nothing else comes but want of memory
 abbrev pub UsageByWords : Type 0
@@ -53,7 +62,6 @@ DoneOrUsage = (words : List (List ℕ)) (files others : FilesSeen) (out other : 
 -- the ends that are named for a command: a row for each command and end
 abbrev pub IsNamed : CommandLine → End → Type 0
 IsNamed (Check _) Done = ⊤
-IsNamed (Check _) (Source Unbuilt) = ⊥
 IsNamed (Check _) (Source _) = ⊤
 IsNamed (Check _) ReadFault = ⊤
 IsNamed (Check _) WriteFault = ⊤
@@ -61,7 +69,7 @@ IsNamed (Check _) NoMemory = ⊤
 IsNamed (Check _) (TooLong which.Program) = ⊤
 IsNamed (Replay _ _) Done = ⊤
 IsNamed (Replay _ _) (Source _) = ⊤
-IsNamed (Replay _ _) Rejected = ⊤
+IsNamed (Replay _ _) (Rejected _ _) = ⊤
 IsNamed (Replay _ _) ReadFault = ⊤
 IsNamed (Replay _ _) WriteFault = ⊤
 IsNamed (Replay _ _) NoMemory = ⊤
@@ -73,32 +81,21 @@ IsNamed _ _ = ⊥
 abbrev pub EndsAreNamed : Type 0
 EndsAreNamed = (files : FilesSeen) (out : SinkSeen) (line : CommandLine) (end : End) (printed : List ℕ) → LineEnds files out line end printed → IsNamed line end
 
--- a line that does not take the program of the text: `check` takes each, and `replay` those over truth values
-abbrev pub IsUntaken : CommandLine → List ℕ → Type 0
-IsUntaken (Check _) text = ⊥
-IsUntaken (Replay _ _) text = IsUnbuilt text
-
--- the text is refused by a line for this cause: it has the fault, or the line does not take its program
-abbrev pub IsRefusal : CommandLine → List ℕ → SourceFault → Type 0
-IsRefusal line text Unbuilt = IsUntaken line text
-IsRefusal line text fault = IsSourceFault text fault
-
--- the program's text was refused: the bytes that were read, which are the file's where these are told, have this fault, or
--- are a program that the line does not take
+-- the program's text was refused: the bytes that were read, which are the file's where these are told, have this fault
 pub record IsFaulty (files : FilesSeen) (line : CommandLine) (fault : SourceFault) : Type 0 where
   pub text : List ℕ
   pub text_is : Told (files.bytes (program_of line)) text
-  pub is_refusal : IsRefusal line text fault
+  pub is_fault : IsSourceFault text fault
 
 -- where a line ends with a fault of the program's text, the text is refused for it
 abbrev pub SourceIsFaulty : Type 0
 SourceIsFaulty = (files : FilesSeen) (out : SinkSeen) (line : CommandLine) (printed : List ℕ) (fault : SourceFault) → LineEnds files out line (Source fault) printed → IsFaulty files line fault
 
--- a program's text that is told, within its limit, and is to be refused for a cause is refused for it, but for a fault of
--- reading or want of memory
+-- a program's text that is told, within its limit, and has a fault is refused for it, but for a fault of reading or want of
+-- memory
 abbrev pub FaultyIsSource : Type 0
 FaultyIsSource = (files : FilesSeen) (out : SinkSeen) (line : CommandLine) (printed text : List ℕ) (fault : SourceFault) (end : End) → files.bytes (program_of line) ≡ Some text → length text ≤ limit_of which.Program
-    → IsRefusal line text fault → LineEnds files out line end printed → (end ≡ Source fault) ⊎ ((end ≡ ReadFault) ⊎ (end ≡ NoMemory))
+    → IsSourceFault text fault → LineEnds files out line end printed → (end ≡ Source fault) ⊎ ((end ≡ ReadFault) ⊎ (end ≡ NoMemory))
 
 -- `check` did its work: the text is a program, it is the file's where this is told, and the counts were printed
 pub record IsChecked (files : FilesSeen) (file printed : List ℕ) : Type 0 where
@@ -112,8 +109,8 @@ pub record IsChecked (files : FilesSeen) (file printed : List ℕ) : Type 0 wher
 abbrev pub DoneIsChecked : Type 0
 DoneIsChecked = (files : FilesSeen) (out : SinkSeen) (file printed : List ℕ) → LineEnds files out (Check file) Done printed → IsChecked files file printed
 
--- `replay` did its work: the program is one over truth values, the derivation is one of it, both are those of the files where these tell their
--- bytes, and the number of obligations was printed
+-- `replay` did its work: the derivation is one of the program, both are those of the files where these tell their bytes, and the
+-- number of obligations was printed
 pub record IsReplayed (files : FilesSeen) (file derivation printed : List ℕ) : Type 0 where
   pub text : List ℕ
   pub steps : List ℕ
@@ -121,29 +118,28 @@ pub record IsReplayed (files : FilesSeen) (file derivation printed : List ℕ) :
   pub text_is : Told (files.bytes file) text
   pub steps_is : Told (files.bytes derivation) steps
   pub is_source : IsSource text program
-  pub is_plain : IsPlainProgram program
-  pub is_derivation : IsDerivationText program steps
+  pub is_derivation : IsDerivationOf program steps
   pub printed_is : printed ≡ accepted_line (length program.declared)
 
 -- where `replay` ends Done, it did its work
 abbrev pub DoneIsReplayed : Type 0
 DoneIsReplayed = (files : FilesSeen) (out : SinkSeen) (file derivation printed : List ℕ) → LineEnds files out (Replay file derivation) Done printed → IsReplayed files file derivation printed
 
--- a derivation was refused: the bytes that were read are none of the program, which is one over truth values, and both are those of the files where these
--- tell their bytes
-pub record IsRefused (files : FilesSeen) (file derivation : List ℕ) : Type 0 where
+-- a derivation was refused: the bytes that were read are none of the program, this line is the first with which they begin none, this
+-- is what is wrong with it, and both texts are those of the files where these tell their bytes
+pub record IsRefused (files : FilesSeen) (file derivation : List ℕ) (number : ℕ) (why : Why) : Type 0 where
   pub text : List ℕ
   pub steps : List ℕ
   pub program : Program
   pub text_is : Told (files.bytes file) text
   pub steps_is : Told (files.bytes derivation) steps
   pub is_source : IsSource text program
-  pub is_plain : IsPlainProgram program
-  pub is_none : ¬ IsDerivationText program steps
+  pub is_rejected : IsRejected program steps number why
+  pub is_none : ¬ IsDerivationOf program steps
 
 -- where `replay` ends Rejected, the derivation was refused for its cause
 abbrev pub RejectedIsRefused : Type 0
-RejectedIsRefused = (files : FilesSeen) (out : SinkSeen) (file derivation printed : List ℕ) → LineEnds files out (Replay file derivation) Rejected printed → IsRefused files file derivation
+RejectedIsRefused = (files : FilesSeen) (out : SinkSeen) (file derivation printed : List ℕ) (number : ℕ) (why : Why) → LineEnds files out (Replay file derivation) (Rejected number why) printed → IsRefused files file derivation number why
 
 -- a text that is told is too long only where it has more bytes than its limit
 abbrev pub TooLongIsLonger : Type 0
@@ -159,7 +155,7 @@ LongIsTooLong = (files : FilesSeen) (out : SinkSeen) (line : CommandLine) (print
 -- an end that comes before a derivation was read whole
 abbrev pub EndsEarly : End → Type 0
 EndsEarly Done = ⊥
-EndsEarly Rejected = ⊥
+EndsEarly (Rejected _ _) = ⊥
 EndsEarly WriteFault = ⊥
 EndsEarly _ = ⊤
 

@@ -2,6 +2,8 @@ pub mod Lines
 pub mod Messages
 pub mod Seen
 pub mod Sources
+pub mod Derivations
+pub mod Feeding
 pub mod Refusals
 pub mod Ends
 pub mod Answers

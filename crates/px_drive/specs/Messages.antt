@@ -4,6 +4,8 @@ use Rattle.std.specs.List.{flat_map}
 use Rattle.std.specs.Fmt.{decimal}
 use Rattle.std.specs.Borrow.{Bor}
 use Rattle.px_terms.specs.declared.program.Program.{Program}
+use Rattle.px_replay.specs.declared.ends.Why.{Why}
+use Rattle.px_replay.specs.declared.ends.Why.TheVariants as reasons
 use Rattle.px_scope.specs.declared.ends.ScopeKind.{ScopeKind}
 use Rattle.px_scope.specs.declared.ends.ScopeKind.TheVariants.{Unknown, Repeated, Later, WrongPlace}
 use Rattle.px_types.specs.declared.ends.TypeKind.{TypeKind}
@@ -11,7 +13,7 @@ use Rattle.px_types.specs.declared.ends.TypeKind.TheVariants.{Mismatch, Arity, A
 use Rattle.px_drive.specs.declared.outcome.End.{End}
 use Rattle.px_drive.specs.declared.outcome.End.TheVariants.{Done, Usage, Source, Rejected, ReadFault, WriteFault, NoMemory, TooLong}
 use Rattle.px_drive.specs.declared.outcome.SourceFault.{SourceFault}
-use Rattle.px_drive.specs.declared.outcome.SourceFault.TheVariants.{Lex, Parse, Scope, Typing, Descent, Unbuilt}
+use Rattle.px_drive.specs.declared.outcome.SourceFault.TheVariants.{Lex, Parse, Scope, Typing, Descent}
 use Rattle.px_drive.specs.declared.outcome.Which.TheVariants as which
 
 -- the bytes of pieces, one after the other
@@ -51,14 +53,24 @@ source_line (Parse at) = codes "source: parse at " ++ (decimal at ++ codes "\n")
 source_line (Scope kind at) = codes "source: scope " ++ (scope_words kind ++ (codes " at " ++ (decimal at ++ codes "\n")))
 source_line (Typing kind at) = codes "source: type " ++ (type_words kind ++ (codes " at " ++ (decimal at ++ codes "\n")))
 source_line (Descent def call) = codes "source: descent definition " ++ (decimal def ++ (codes " call " ++ (decimal call ++ codes "\n")))
-source_line Unbuilt = codes "source: unbuilt\n"
+
+-- what is wrong with a line, in words
+abbrev pub why_words : Why → List ℕ
+why_words reasons.Form = codes "form"
+why_words reasons.Order = codes "order"
+why_words reasons.Rule = codes "rule"
+why_words reasons.End = codes "end"
+
+-- the line of a derivation that is refused, with its line feed
+abbrev pub rejected_line : ℕ → Why → List ℕ
+rejected_line line why = codes "rejected: line " ++ (decimal line ++ (codes " " ++ (why_words why ++ codes "\n")))
 
 -- the line that an end prints as an error, with its line feed; where the work is done there is none
 abbrev pub message_of : End → List ℕ
 message_of Done = []
 message_of Usage = codes "usage: propel check F | replay F D\n"
 message_of (Source fault) = source_line fault
-message_of Rejected = codes "rejected\n"
+message_of (Rejected line why) = rejected_line line why
 message_of ReadFault = codes "read fault\n"
 message_of WriteFault = codes "write fault\n"
 message_of NoMemory = codes "no memory\n"
@@ -70,7 +82,7 @@ abbrev pub status_of : End → ℕ
 status_of Done = 0
 status_of Usage = 2
 status_of (Source _) = 3
-status_of Rejected = 5
+status_of (Rejected _ _) = 5
 status_of ReadFault = 8
 status_of WriteFault = 9
 status_of NoMemory = 10

@@ -8,8 +8,8 @@ use Rattle.px_scope.specs.declared.ends.ScopeEnd.TheVariants as scoping
 use Rattle.px_types.specs.declared.ends.TypeEnd.{TypeEnd}
 use Rattle.px_types.specs.declared.ends.TypeEnd.TheVariants as typing
 use Rattle.px_descent.specs.declared.end.NoDescent.{NoDescent}
-use Rattle.px_plain_replay.specs.declared.replay.ReplayEnd.{ReplayEnd}
-use Rattle.px_plain_replay.specs.declared.replay.ReplayEnd.TheVariants as replaying
+use Rattle.px_replay.specs.declared.ends.FeedEnd.{FeedEnd}
+use Rattle.px_replay.specs.declared.ends.FeedEnd.TheVariants as feeding
 use Rattle.px_drive.specs.declared.outcome.End.{End}
 use Rattle.px_drive.specs.declared.outcome.End.TheVariants.{Source, Rejected, NoMemory}
 use Rattle.px_drive.specs.declared.outcome.SourceFault.TheVariants.{Lex, Parse, Scope, Typing, Descent}
@@ -38,7 +38,7 @@ end_of_typing typing.NoMemory = NoMemory
 abbrev pub end_of_descent : NoDescent → End
 end_of_descent refusal = Source (Descent refusal.def refusal.call)
 
--- the end where a derivation is not accepted
-abbrev pub end_of_replaying : ReplayEnd → End
-end_of_replaying replaying.Rejected = Rejected
-end_of_replaying replaying.NoMemory = NoMemory
+-- the end where a line of a derivation is refused, or lines are missing
+abbrev pub end_of_feeding : FeedEnd → End
+end_of_feeding (feeding.Rejected line why) = Rejected line why
+end_of_feeding feeding.NoMemory = NoMemory

@@ -5,7 +5,6 @@ use Rattle.px_base.specs.declared.limits.TheConstants.{PROGRAM_BYTES}
 use Rattle.px_base.specs.declared.raw.RawProgram.{RawProgram}
 use Rattle.px_terms.specs.declared.program.Program.{Program}
 use Rattle.px_terms.specs.Descent.{AllDescend}
-use Rattle.px_terms.specs.Plain.{IsPlainProgram}
 use Rattle.px_lexer.specs.declared.token.Token.{Token}
 use Rattle.px_lexer.specs.Tokens.{AreTokens}
 use Rattle.px_lexer.specs.Tokens as lexer
@@ -24,7 +23,7 @@ use Rattle.px_descent.specs.Ends.{NamesFirst}
 use Rattle.px_drive.specs.declared.outcome.End.{End}
 use Rattle.px_drive.specs.declared.outcome.End.TheVariants.{Source, NoMemory}
 use Rattle.px_drive.specs.declared.outcome.SourceFault.{SourceFault}
-use Rattle.px_drive.specs.declared.outcome.SourceFault.TheVariants.{Lex, Parse, Scope, Typing, Descent, Unbuilt}
+use Rattle.px_drive.specs.declared.outcome.SourceFault.TheVariants.{Lex, Parse, Scope, Typing, Descent}
 
 -- The text is this numbered program: it is within the limit and these tokens, they are this tree, and the tree is this program
 -- with numbers for names.
@@ -74,14 +73,13 @@ pub record IsDescentFault (text : List ℕ) (def call : ℕ) : Type 0 where
   pub is_typed : typing.IsProgramOf raw program
   pub names_first : NamesFirst program (record { def = def; call = call })
 
--- The text is no program for this cause, by the first layer that fails. Each layer is built, so `Unbuilt` is the cause of none.
+-- the text is no program for this cause, by the first layer that fails
 abbrev pub IsSourceFault : List ℕ → SourceFault → Type 0
 IsSourceFault text (Lex at) = lexer.IsFault text at
 IsSourceFault text (Parse at) = IsParseFault text at
 IsSourceFault text (Scope kind at) = IsScopeFault text kind at
 IsSourceFault text (Typing kind at) = IsTypingFault text kind at
 IsSourceFault text (Descent def call) = IsDescentFault text def call
-IsSourceFault text Unbuilt = ⊥
 
 -- the program of the bytes, or why they are none
 abbrev pub Sources : List ℕ → Result Program End → Type 0
@@ -89,12 +87,6 @@ Sources text (Ok program) = IsSource text program
 Sources text (Err (Source fault)) = IsSourceFault text fault
 Sources text (Err NoMemory) = ⊤
 Sources text (Err _) = ⊥
-
--- the text is a program that is not one over truth values
-pub record IsUnbuilt (text : List ℕ) : Type 0 where
-  pub program : Program
-  pub is_source : IsSource text program
-  pub other : ¬ IsPlainProgram program
 
 -- At this place a name of the text breaks this rule, and no name that stands before it breaks any: the names of the text's
 -- tree stand one after the other, and each name and each property's word of the text up to this place is among them.

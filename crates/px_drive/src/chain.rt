@@ -4,7 +4,7 @@ ghost use Rattle.px_drive.specs.Ends.{Runs, end_of};
 ghost use Rattle.px_drive.specs.Seen.{files_seen, sink_seen, KeepsFiles};
 
 use crate::messages::{print_accepted, print_checked};
-use crate::stages::{accept, read_source, read_text, take_program};
+use crate::stages::{accept, read_source, read_text};
 use crate::{CommandLine, End, Which};
 use px_terms::Text;
 use px_world::{Files, Sink};
@@ -66,8 +66,7 @@ fn check<F: Files, O: Sink>(
     Ok(())
 }
 
-/// Reads the program, takes it where it is one over truth values, reads the derivation and replays it, and prints how
-/// many obligations were accepted.
+/// Reads the program, reads the derivation and replays it, and prints how many obligations were accepted.
 fn replay<F: Files, O: Sink>(
     alloc: Global,
     file: &Text,
@@ -84,7 +83,6 @@ fn replay<F: Files, O: Sink>(
 {
     let text = read_text(alloc, files, file, Which::Program)?;
     let checked = read_source(alloc, &text)?;
-    take_program(&checked)?;
     let steps = read_text(alloc, files, derivation, Which::Derivation)?;
     let obligations = accept(alloc, &checked, &steps)?;
     print_accepted(out, obligations)?;

@@ -109,8 +109,8 @@ def f(x13: Q13<Word>): Bool { match x13 { E13(x12) => match x12 { E12(x11) => ma
     ),
 ];
 
-/// Programs that `check` takes and `replay` doesn't yet, and what `check` prints of each.
-const UNTAKEN: [(&[u8], &str); 8] = [
+/// Programs of other types than truth values, and what `check` prints of each.
+const OTHERS: [(&[u8], &str); 8] = [
     (
         b"data Nat { Z, S(Nat) }",
         "checked: datatypes 1, definitions 0, obligations 0\n",
@@ -438,11 +438,20 @@ fn whole_programs_are_checked(rt: HostRuntime) -> Result<(), Fail> {
 }
 
 #[test]
-fn others_than_truth_values_are_not_replayed_yet(rt: HostRuntime) -> Result<(), Fail> {
-    let unbuilt = "source: unbuilt\n";
-    for (program, printed) in UNTAKEN {
+fn others_than_truth_values_are_replayed(rt: HostRuntime) -> Result<(), Fail> {
+    for (program, printed) in OTHERS {
         expect(&rt, rt.alloc(), &Call { program, ..CHECK }, 0, printed, "")?;
-        expect(&rt, rt.alloc(), &Call { program, ..REPLAY }, 3, "", unbuilt)?;
+        let (derivation, accepted): (&[u8], &str) = if program.starts_with(b"lemma") {
+            (b"goal 0\nsame 0\n", "accepted 1\n")
+        } else {
+            (b"", "accepted 0\n")
+        };
+        let call = Call {
+            program,
+            derivation,
+            ..REPLAY
+        };
+        expect(&rt, rt.alloc(), &call, 0, accepted, "")?;
     }
     Ok(())
 }

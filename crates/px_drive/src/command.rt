@@ -8,7 +8,7 @@ ghost use Rattle.px_drive.specs.Headline.{Headline, TellsFirstBroken};
 ghost use Rattle.px_drive.specs.Completeness.{IsComplete};
 
 use crate::chain::run_line;
-use crate::laws::{accepted_is_true, never_both, one_source, scope_fault_is_first};
+use crate::laws::{accepted_is_true, never_both, never_rejected, one_source, scope_fault_is_first};
 use crate::line::read_line;
 use crate::messages::report;
 use crate::{End, Outcome};
@@ -30,7 +30,8 @@ use std::alloc::Global;
 ///
 /// Which bytes a name has and which names may be opened is unchanged.
 ///
-/// Where `replay` is done, every declared property of the program read holds in the language's meaning, for all values.
+/// Where `replay` is done, every declared property and lemma of the program read holds in the language's meaning, for all values, in every
+/// extension of the program.
 /// Where the text read has a fault of scope, its place is the least byte at which a name of the text breaks a rule.
 pub fn drive<F: Files, O: Sink, E: Sink>(
     alloc: Global,
@@ -59,6 +60,7 @@ pub fn drive<F: Files, O: Sink, E: Sink>(
     accepted_is_true();
     one_source();
     never_both();
+    never_rejected();
     scope_fault_is_first();
     answer(alloc, words, files, out, err)
 }

@@ -1,14 +1,16 @@
 //! What the sources of programs are, and what the table of causes says of every call, as functions whose contracts are
 //! these laws.
 
-ghost use Rattle.px_drive.specs.Laws.{OneSource, OneSourceFault, NeverBoth, ScopeFaultIsFirst, AcceptedIsTrue, UsageByWords, DoneOrUsage, EndsAreNamed, SourceIsFaulty, FaultyIsSource, DoneIsChecked, DoneIsReplayed, RejectedIsRefused, TooLongIsLonger, LongIsTooLong, LongIsNotReplayed, RefusalsPrintNothing};
+ghost use Rattle.px_drive.specs.Laws.{OneSource, OneSourceFault, NeverBoth, ScopeFaultIsFirst, NeverRejected, OneRejection, AcceptedIsTrue, UsageByWords, DoneOrUsage, EndsAreNamed, SourceIsFaulty, FaultyIsSource, DoneIsChecked, DoneIsReplayed, RejectedIsRefused, TooLongIsLonger, LongIsTooLong, LongIsNotReplayed, RefusalsPrintNothing};
 
 use px_descent::{one_first_stuck, stuck_excludes_descent};
 use px_lexer::one_list;
 use px_parser::{one_tree, trees_are_fine};
-use px_plain::derivations_are_sound;
 use px_scope::{each_name_is_listed, fault_is_first, names_rise, numberings_fit, one_numbering};
-use px_types::{never_typed_and_broken, one_first_fault, one_program};
+use px_derive::one_row;
+use px_replay::{ends_are_derivations, one_state, partials_begin};
+use px_soundness::derivations_are_sound;
+use px_types::{never_typed_and_broken, one_first_fault, one_program, programs_are_typed};
 
 /// A text is at most one program.
 pub fn one_source()
@@ -70,10 +72,31 @@ pub fn scope_fault_is_first()
     each_name_is_listed();
 }
 
-/// A derivation of the program of a text, which is one over truth values, shows that each of its obligations holds.
+/// No text is a derivation of a program and is rejected.
+pub fn never_rejected()
+    ensures { NeverRejected }
+{
+    ends_are_derivations();
+    partials_begin();
+}
+
+/// Of a checked program, a text is rejected at one line at most, for one reason.
+pub fn one_rejection()
+    ensures { OneRejection }
+{
+    ends_are_derivations();
+    partials_begin();
+    one_state();
+    one_row();
+}
+
+/// A derivation of the program of a text shows that each of its obligations holds, in every extension of the program.
 pub fn accepted_is_true()
     ensures { AcceptedIsTrue }
 {
+    trees_are_fine();
+    numberings_fit();
+    programs_are_typed();
     derivations_are_sound();
 }
 
@@ -92,18 +115,16 @@ pub fn ends_are_named()
     ensures { EndsAreNamed }
 {}
 
-/// Where a line ends with a fault of the program's text, the bytes that were read have it, or are a program that the line
-/// doesn't take.
+/// Where a line ends with a fault of the program's text, the bytes that were read have it.
 pub fn source_is_faulty()
     ensures { SourceIsFaulty }
 {}
 
-/// A program's text that is told, within its limit, and has a fault, or is a program that the line doesn't take, is refused
-/// for that, but for a fault of reading or want of memory.
+/// A program's text that is told, within its limit, and has a fault is refused for it, but for a fault of reading or want of
+/// memory.
 pub fn faulty_is_source()
     ensures { FaultyIsSource }
 {
-    one_source();
     one_source_fault();
     never_both();
 }
@@ -113,16 +134,18 @@ pub fn done_is_checked()
     ensures { DoneIsChecked }
 {}
 
-/// Where `replay` ends `Done`, the program is one over truth values, the derivation is one of it, and the number of
-/// obligations was printed.
+/// Where `replay` ends `Done`, the derivation is one of the program, and the number of obligations was printed.
 pub fn done_is_replayed()
     ensures { DoneIsReplayed }
 {}
 
-/// Where `replay` ends `Rejected`, the bytes that were read are no derivation of the program.
+/// Where `replay` ends `Rejected`, the bytes that were read are no derivation of the program, by the line and for the reason
+/// that are told.
 pub fn rejected_is_refused()
     ensures { RejectedIsRefused }
-{}
+{
+    never_rejected();
+}
 
 /// A text that is told is too long only where it has more bytes than its limit.
 pub fn too_long_is_longer()

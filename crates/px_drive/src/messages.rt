@@ -1,11 +1,12 @@
 ghost use Rattle.std.specs.Prelude.{◌≡◌, ◌≤◌, ◌++◌, codes};
 ghost use Rattle.std.specs.Fmt.{decimal};
-ghost use Rattle.px_drive.specs.Messages.{checked_line, accepted_line, scope_words, type_words, source_line, message_of, status_of, bytes_of_all};
+ghost use Rattle.px_drive.specs.Messages.{checked_line, accepted_line, scope_words, type_words, why_words, source_line, rejected_line, message_of, status_of, bytes_of_all};
 ghost use Rattle.px_drive.specs.Answers.{Tells};
 ghost use Rattle.px_drive.specs.Seen.{sink_seen, Writes};
 
 use crate::{End, Outcome, SourceFault, Which};
 use itoa::Buffer;
+use px_replay::Why;
 use px_scope::ScopeKind;
 use px_terms::Program;
 use px_types::TypeKind;
@@ -20,7 +21,7 @@ pub fn status(outcome: &Outcome) -> u8
         End::Done => 0,
         End::Usage => 2,
         End::Source(_) => 3,
-        End::Rejected => 5,
+        End::Rejected { .. } => 5,
         End::ReadFault => 8,
         End::WriteFault => 9,
         End::NoMemory => 10,
@@ -37,7 +38,7 @@ fn write_message<E: Sink>(end: End, err: &mut E) -> Result<(), WriteFault>
         End::Done => write_line(err, b""),
         End::Usage => write_line(err, b"usage: propel check F | replay F D\n"),
         End::Source(fault) => write_source(fault, err),
-        End::Rejected => write_line(err, b"rejected\n"),
+        End::Rejected { line, why } => write_rejected(line, why, err),
         End::ReadFault => write_line(err, b"read fault\n"),
         End::WriteFault => write_line(err, b"write fault\n"),
         End::NoMemory => write_line(err, b"no memory\n"),
@@ -63,7 +64,6 @@ fn write_source<E: Sink>(fault: SourceFault, err: &mut E) -> Result<(), WriteFau
             write_rule(b"source: type ", rule_of_typing(kind), at, err)
         }
         SourceFault::Descent { def, call } => write_descent(def, call, err),
-        SourceFault::Unbuilt => write_line(err, b"source: unbuilt\n"),
     }
 }
 
@@ -102,6 +102,36 @@ fn write_descent<E: Sink>(def: u32, call: u32, err: &mut E) -> Result<(), WriteF
             b"\n",
         ],
     )
+}
+
+/// Writes the line of a derivation that is refused.
+fn write_rejected<E: Sink>(line: u64, why: Why, err: &mut E) -> Result<(), WriteFault>
+    ensures writes { Writes (rejected_line line why) (sink_seen E.Sink err.old err.new) result }
+    ensures later { E.faults err.old ≤ E.faults err.new }
+{
+    let mut number = Buffer::new();
+    write_pieces(
+        err,
+        &[
+            b"rejected: line ",
+            number.format(line).as_bytes(),
+            b" ",
+            words_of(why).as_bytes(),
+            b"\n",
+        ],
+    )
+}
+
+/// What is wrong with a line, in words.
+fn words_of(why: Why) -> &'static str
+    ensures { result.now ≡ why_words why }
+{
+    match why {
+        Why::Form => "form",
+        Why::Order => "order",
+        Why::Rule => "rule",
+        Why::End => "end",
+    }
 }
 
 /// Writes these bytes, a place in decimal, and a line feed.

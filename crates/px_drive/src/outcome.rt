@@ -1,3 +1,4 @@
+use px_replay::Why;
 use px_scope::ScopeKind;
 use px_terms::Text;
 use px_types::TypeKind;
@@ -27,8 +28,6 @@ pub enum SourceFault {
     /// The definition of this number is the first that doesn't descend, and this is the number of its first self-call
     /// that lowers no position, of those that no self-call of it raises; or 2^32 - 1 where that number is greater.
     Descent { def: u32, call: u32 },
-    /// The text is a program, but not one over truth values, and derivations of others aren't replayed yet.
-    Unbuilt,
 }
 
 /// A text that a command reads.
@@ -47,8 +46,9 @@ pub enum End {
     Usage,
     /// The program's text was refused.
     Source(SourceFault),
-    /// The derivation's text was refused.
-    Rejected,
+    /// The derivation's text was refused: the line of this number, from 1, is the first with which no derivation of the
+    /// program begins, and this is what is wrong with it.
+    Rejected { line: u64, why: Why },
     /// Opening or reading a text failed. The files' count of faults rose.
     ReadFault,
     /// A write failed. The count of faults of the output or of the errors rose.

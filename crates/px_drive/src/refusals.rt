@@ -6,7 +6,7 @@ use crate::{End, SourceFault};
 use px_descent::NoDescent;
 use px_lexer::LexEnd;
 use px_parser::ParseEnd;
-use px_plain_replay::ReplayEnd;
+use px_replay::FeedEnd;
 use px_scope::ScopeEnd;
 use px_terms::NoMemory;
 use px_types::TypeEnd;
@@ -97,15 +97,15 @@ impl From<NoDescent> for End {
     }
 }
 
-impl From<ReplayEnd> for End {
-    ghost use Rattle.px_drive.specs.Refusals.{end_of_replaying};
+impl From<FeedEnd> for End {
+    ghost use Rattle.px_drive.specs.Refusals.{end_of_feeding};
 
-    ghost from_gives = { λ refusal end. end ≡ end_of_replaying refusal };
+    ghost from_gives = { λ refusal end. end ≡ end_of_feeding refusal };
 
-    fn from(refusal: ReplayEnd) -> End {
+    fn from(refusal: FeedEnd) -> End {
         match refusal {
-            ReplayEnd::Rejected => End::Rejected,
-            ReplayEnd::NoMemory => End::NoMemory,
+            FeedEnd::Rejected { line, why } => End::Rejected { line, why },
+            FeedEnd::NoMemory => End::NoMemory,
         }
     }
 }

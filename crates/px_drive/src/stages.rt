@@ -1,14 +1,18 @@
-ghost use Rattle.std.specs.Prelude.{◌≤◌, ◌≡◌, length, IsTrue};
-ghost use Rattle.px_terms.specs.limits.TheConstants.{PROGRAM_BYTES as PROGRAM_LIMIT};
-ghost use Rattle.px_drive.specs.Ends.{limit_of, ReadsText, TakesProgram, Accepts};
+ghost use Rattle.std.specs.Prelude.{◌≤◌, ◌≡◌, [], length, IsTrue};
+ghost use Rattle.px_terms.specs.limits.TheConstants.{PROGRAM_BYTES as PROGRAM_LIMIT, DERIVATION_BYTES as DERIVATION_LIMIT};
+ghost use Rattle.px_replay.specs.Standings.{StandsFor};
+ghost use Rattle.px_drive.specs.Feeding.{Feeds};
+ghost use Rattle.px_drive.specs.Ends.{limit_of, ReadsText, Accepts};
 ghost use Rattle.px_drive.specs.Seen.{files_seen, KeepsFiles};
 ghost use Rattle.px_drive.specs.Sources.{Sources};
 
-use crate::{End, SourceFault, Which};
+use crate::{End, Which};
+use px_derive::{Piece, next_line};
 use px_descent::Checked;
+use px_equations::list_obligations;
 use px_lexer::tokens;
 use px_parser::parse;
-use px_plain_replay::{is_over_truth_values, replay_text};
+use px_replay::{Replay, Why};
 use px_scope::resolve;
 use px_terms::Text;
 use px_terms::limits::{DERIVATION_BYTES, PROGRAM_BYTES};
@@ -60,20 +64,41 @@ pub(crate) fn read_source(alloc: Global, bytes: &Bytes) -> Result<Checked, End>
     Ok(checked)
 }
 
-/// Takes the program, where it is one over truth values: derivations of others aren't replayed yet.
-pub(crate) fn take_program(checked: &Checked) -> Result<(), End>
-    ensures { TakesProgram checked.now result }
-{
-    if !is_over_truth_values(checked.program()) {
-        return Err(End::Source(SourceFault::Unbuilt));
-    }
-    Ok(())
-}
-
-/// Replays the derivation of the program in the bytes, and answers the number of its obligations.
+/// Replays the derivation of the program in the bytes, line by line, and answers the number of its obligations. The first line
+/// with which no derivation begins is refused, or what stands behind the last line feed, and nothing after it is looked at.
 pub(crate) fn accept(alloc: Global, checked: &Checked, bytes: &Bytes) -> Result<u32, End>
+    requires { length bytes.now ≤ DERIVATION_LIMIT }
     ensures { Accepts checked.now bytes.now result }
 {
-    let accepted = replay_text(alloc, checked, bytes.as_slice())?;
+    let all = list_obligations(alloc, checked)?;
+    let mut replay = Replay::new(alloc, &all)?;
+    feed_lines(&mut replay, bytes.as_slice())?;
+    let accepted = replay.finish()?;
     Ok(accepted.obligations)
+}
+
+/// Feeds the text's lines to a replay that was fed nothing yet.
+fn feed_lines(replay: &mut Replay, text: &[u8]) -> Result<(), End>
+    requires stands { StandsFor replay.old [] }
+    requires small { length text.now ≤ DERIVATION_LIMIT }
+    ensures { Feeds replay.old.program text.now replay.new result }
+{
+    let mut at = 0;
+    let mut number = 1;
+    loop {
+        match next_line(text, at) {
+            Piece::Line { start, end, next } => {
+                replay.feed(&text[start..end])?;
+                at = next;
+                number += 1;
+            }
+            Piece::Partial => {
+                return Err(End::Rejected {
+                    line: number,
+                    why: Why::Form,
+                });
+            }
+            Piece::End => return Ok(()),
+        }
+    }
 }

@@ -56,32 +56,59 @@ step a0r / unfold\nstep a0r / select\nsame 0\n";
 const SEL: &[u8] =
     b"goal 0\ncase 0\nstep a1l / unfold\nstep a1l / select\nsame 1\nstep a0l / unfold\nstep a0l / select\nsame 0\n";
 
-/// The properties of `or`, a text, and what is printed, where it is accepted.
-const DERIVATIONS: [(&str, &[u8], &str); 13] = [
-    (" with idem", IDEM, "accepted 1\n"),
-    ("", b"", "accepted 0\n"),
-    (" with assoc", ASSOC, "accepted 1\n"),
-    (" with sel", SEL, "accepted 1\n"),
+/// The properties of `or`, a text, and what is printed where it is accepted, or what is told where it is not.
+const DERIVATIONS: [(&str, &[u8], &str, &str); 13] = [
+    (" with idem", IDEM, "accepted 1\n", ""),
+    ("", b"", "accepted 0\n", ""),
+    (" with assoc", ASSOC, "accepted 1\n", ""),
+    (" with sel", SEL, "accepted 1\n", ""),
     // Unfolded once, above the cases.
     (
         " with idem",
         b"goal 0\nstep a0l / unfold\ncase 0\nstep a0l / select\nsame 0\nstep a0l / select\nsame 0\n",
         "accepted 1\n",
+        "",
     ),
-    (" with comm, idem", IDEM, ""),
-    (" with idem", WHOLE, ""),
-    ("", b"\n", ""),
-    (" with assoc", IDEM, ""),
+    (" with comm, idem", IDEM, "", "rejected: line 5 rule\n"),
+    (" with idem", WHOLE, "", "rejected: line 3 rule\n"),
+    ("", b"\n\n\n", "", "rejected: line 1 form\n"),
+    (" with assoc", IDEM, "", "rejected: line 4 rule\n"),
     // A premise is a fact, and what is to be shown is not among the facts.
-    (" with sym", b"goal 0\nsame 0\n", ""),
+    (
+        " with sym",
+        b"goal 0\nsame 0\n",
+        "",
+        "rejected: line 2 rule\n",
+    ),
     // The sides differ; there is no such variable; the case of `True` is missing.
-    (" with idem", b"goal 0\nsame 0\n", ""),
-    (" with idem", b"goal 0\ncase 1\nsame 0\nsame 0\n", ""),
+    (
+        " with idem",
+        b"goal 0\nsame 0\n",
+        "",
+        "rejected: line 2 rule\n",
+    ),
+    (
+        " with idem",
+        b"goal 0\ncase 1\nsame 0\nsame 0\n",
+        "",
+        "rejected: line 2 rule\n",
+    ),
     (
         " with idem",
         b"goal 0\ncase 0\nstep a0l / unfold\nstep a0l / select\nsame 0\n",
         "",
+        "rejected: line 6 end\n",
     ),
+];
+
+/// Places of lines of the whole derivation, and the line and the kind of its rejection where that line stands twice.
+const TWICE: [(usize, usize, &str); 6] = [
+    (0, 2, "order"),
+    (1, 3, "rule"),
+    (3, 5, "rule"),
+    (14, 17, "order"),
+    (16, 18, "order"),
+    (23, 25, "order"),
 ];
 
 /// Lines as a text, each ended by a line feed.
@@ -169,7 +196,7 @@ const REFUSED: [(&[u8], &str); 9] = [
 ];
 
 /// Calls over other pieces, files and devices, each with its status, its output and its errors.
-const CALLS: [(Call<'static>, u8, &str, &str); 15] = [
+const CALLS: [(Call<'static>, u8, &str, &str); 17] = [
     (
         CHECK,
         0,
@@ -196,7 +223,7 @@ const CALLS: [(Call<'static>, u8, &str, &str); 15] = [
         "accepted 0\n",
         "",
     ),
-    // Claims and replicas of programs over truth values.
+    // Claims and replicas.
     (
         Call {
             program: b"def or(a: Bool, b: Bool): Bool with comm { match a { False => b, True => True } }\nclaim or: idem",
@@ -213,7 +240,7 @@ const CALLS: [(Call<'static>, u8, &str, &str); 15] = [
         },
         5,
         "",
-        "rejected\n",
+        "rejected: line 21 rule\n",
     ),
     (
         Call {
@@ -223,7 +250,7 @@ replica s: Bool from False by or",
         },
         5,
         "",
-        "rejected\n",
+        "rejected: line 25 end\n",
     ),
     // The program is taken before the derivation is opened.
     (
@@ -238,18 +265,38 @@ replica s: Bool from False by or",
     (
         Call {
             words: &["replay", "p", "q"],
-            program: b"data Nat { Z, S(Nat) }",
+            program: b"def f(",
             ..REPLAY
         },
         3,
         "",
-        "source: unbuilt\n",
+        "source: parse at 6\n",
     ),
     // The program is opened and read in seven calls; then the derivation is opened, and its second read fails.
     (
         Call {
             piece: 16,
             failing_calls: &[10],
+            ..REPLAY
+        },
+        8,
+        "",
+        "read fault\n",
+    ),
+    // A derivation is read to its end before its first line is refused.
+    (
+        Call {
+            derivation: b"same 0\n",
+            ..REPLAY
+        },
+        5,
+        "",
+        "rejected: line 1 order\n",
+    ),
+    (
+        Call {
+            derivation: b"same 0\n",
+            failing_calls: &[5],
             ..REPLAY
         },
         8,
@@ -352,7 +399,7 @@ fn each_call_has_its_end(rt: HostRuntime) -> Result<(), Fail> {
 #[test]
 fn derivations_of_or_are_replayed(rt: HostRuntime) -> Result<(), Fail> {
     let alloc = rt.alloc();
-    for (with, derivation, printed) in DERIVATIONS {
+    for (with, derivation, printed, told) in DERIVATIONS {
         let program = format!(in alloc;
             "def or(a: Bool, b: Bool): Bool{with} {{ match a {{ False => b, True => True }} }}"
         )?;
@@ -361,37 +408,46 @@ fn derivations_of_or_are_replayed(rt: HostRuntime) -> Result<(), Fail> {
             derivation,
             ..REPLAY
         };
-        let (wanted, told) = if printed.is_empty() {
-            (5, "rejected\n")
-        } else {
-            (0, "")
-        };
+        let wanted = if printed.is_empty() { 5 } else { 0 };
         expect(&rt, alloc, &call, wanted, printed, told)?;
     }
     Ok(())
 }
 
-/// A call over another derivation is rejected.
-fn expect_rejected(rt: &impl Abort, alloc: Global, derivation: &[u8]) -> Result<(), Fail> {
+/// A call over another derivation of the program is rejected at this line for this reason.
+fn expect_rejected(
+    rt: &impl Abort,
+    alloc: Global,
+    derivation: &[u8],
+    line: usize,
+    why: &str,
+) -> Result<(), Fail> {
+    let told = format!(in alloc; "rejected: line {line} {why}\n")?;
     let call = Call {
         derivation,
         ..REPLAY
     };
-    expect(rt, alloc, &call, 5, "", "rejected\n")
+    expect(rt, alloc, &call, 5, "", told.as_str())
 }
 
-/// The derivation with another line in the place of the one at `place` is rejected.
+/// The derivation with another line in the place of the one at `place` is rejected there for this reason.
 fn expect_line_rejected(
     rt: &impl Abort,
     alloc: Global,
     place: usize,
     other: &[u8],
+    why: &str,
 ) -> Result<(), Fail> {
     let mut lines = Vec::new(alloc);
+    let mut number = 0;
     for (at, line) in LINES.iter().enumerate() {
         lines.push(if at == place { other } else { *line })?;
+        if at == place {
+            number = at + 1;
+        }
     }
-    expect_rejected(rt, alloc, text_of(alloc, lines.as_slice())?.as_slice())
+    let text = text_of(alloc, lines.as_slice())?;
+    expect_rejected(rt, alloc, text.as_slice(), number, why)
 }
 
 /// The line with `more` before the first byte `mark` in it, or at its end where it has none.
@@ -412,22 +468,47 @@ fn spelled(alloc: Global, line: &[u8], mark: u8, more: &[u8]) -> Result<Bytes, F
 }
 
 #[test]
-fn another_derivation_is_rejected(rt: HostRuntime) -> Result<(), Fail> {
+fn a_derivation_cut_short_is_rejected_at_its_end(rt: HostRuntime) -> Result<(), Fail> {
     let alloc = rt.alloc();
     for count in 0..LINES.len() {
         let front = text_of(alloc, &LINES[..count])?;
-        expect_rejected(&rt, alloc, front.as_slice())?;
+        expect_rejected(&rt, alloc, front.as_slice(), count + 1, "end")?;
     }
-    expect_rejected(&rt, alloc, &WHOLE[..WHOLE.len() - 1])?;
-    expect_line_rejected(&rt, alloc, 3, b"same 0\nsame 0")?;
-    expect_line_rejected(&rt, alloc, 23, b"same 0\nsame 0")?;
+    expect_rejected(&rt, alloc, &WHOLE[..WHOLE.len() - 1], 24, "form")
+}
+
+#[test]
+fn a_line_twice_is_rejected(rt: HostRuntime) -> Result<(), Fail> {
+    let alloc = rt.alloc();
+    for (place, line, why) in TWICE {
+        let mut lines = Vec::new(alloc);
+        for (at, text) in LINES.iter().enumerate() {
+            lines.push(*text)?;
+            if at == place {
+                lines.push(*text)?;
+            }
+        }
+        let text = text_of(alloc, lines.as_slice())?;
+        expect_rejected(&rt, alloc, text.as_slice(), line, why)?;
+    }
+    Ok(())
+}
+
+#[test]
+fn another_line_is_rejected(rt: HostRuntime) -> Result<(), Fail> {
+    let alloc = rt.alloc();
     for (place, line) in LINES.iter().enumerate() {
-        expect_line_rejected(&rt, alloc, place, b"same 1")?;
+        let why = if line.starts_with(b"goal") {
+            "order"
+        } else {
+            "rule"
+        };
+        expect_line_rejected(&rt, alloc, place, b"same 1", why)?;
         // A leading zero, a doubled space, a space and a carriage return at the end.
         let digit = if line.contains(&b'0') { b'0' } else { b'1' };
         for (mark, more) in [(digit, b"0"), (b' ', b" "), (b'\n', b" "), (b'\n', b"\r")] {
             let other = spelled(alloc, line, mark, more)?;
-            expect_line_rejected(&rt, alloc, place, other.as_slice())?;
+            expect_line_rejected(&rt, alloc, place, other.as_slice(), "form")?;
         }
     }
     Ok(())
@@ -457,6 +538,16 @@ fn choices(alloc: Global, levels: u32) -> Result<String, AllocError> {
 const CHOSEN: &[u8] =
     b"goal 0\nstep a0l / unfold\nstep a0l / select\nstep a0r / unfold\nstep a0r / select\nsame 0\n";
 
+/// A header and so many splits of a truth value.
+fn splits(alloc: Global, count: u32) -> Result<Bytes, Fail> {
+    let mut text = Bytes::new(alloc);
+    text.extend_from_slice(b"goal 0\n")?;
+    for _ in 0..count {
+        text.extend_from_slice(b"split True\n")?;
+    }
+    Ok(text)
+}
+
 #[test]
 fn limits_are_kept(rt: HostRuntime) -> Result<(), Fail> {
     let spaces = vec![in rt.alloc(); b' '; 262_145]?;
@@ -476,7 +567,7 @@ fn limits_are_kept(rt: HostRuntime) -> Result<(), Fail> {
     // A body over the limit of a term isn't unfolded.
     for (levels, wanted, printed, told) in [
         (12, 0, "accepted 1\n", ""),
-        (13, 5, "", "rejected\n"),
+        (13, 5, "", "rejected: line 2 rule\n"),
     ] {
         let program = choices(rt.alloc(), levels)?;
         let call = Call {
@@ -485,6 +576,15 @@ fn limits_are_kept(rt: HostRuntime) -> Result<(), Fail> {
             ..REPLAY
         };
         expect(&rt, rt.alloc(), &call, wanted, printed, told)?;
+    }
+    Ok(())
+}
+
+#[test]
+fn a_sequent_has_at_most_a_thousand_facts(rt: HostRuntime) -> Result<(), Fail> {
+    for (count, why) in [(1_000, "end"), (1_001, "rule")] {
+        let text = splits(rt.alloc(), count)?;
+        expect_rejected(&rt, rt.alloc(), text.as_slice(), 1_002, why)?;
     }
     Ok(())
 }

@@ -11,19 +11,12 @@ returns-in_err-checked-clause-runs g c = passed_on _ _ c.from_residual-in_err-ch
   wrote = Appends-nil _;
 })
 
-pub returns-in_err-take_program-clause-runs : goal.returns-in_err-take_program-clause-runs
-returns-in_err-take_program-clause-runs g c = passed_on _ _ c.from_residual-in_err-take_program.ensures.1 (record {
-  printed = [];
-  allowed = inr (_, c.in_ok-text.ensures.reads, inr (_, c.in_ok-checked.ensures, inl (c.in_err-take_program.ensures, refl)));
-  wrote = Appends-nil _;
-})
-
 pub returns-in_err-steps-clause-runs : goal.returns-in_err-steps-clause-runs
 returns-in_err-steps-clause-runs g c =
     let refused = read_later g.F.Files _ _ c.read_text-2.new.files Derivation _ (Err c.in_err-steps.field-0.0) c.in_ok-text.ensures.keeps c.in_err-steps.ensures.reads in
     passed_on _ _ c.from_residual-in_err-steps.ensures.1 (record {
       printed = [];
-      allowed = inr (_, c.in_ok-text.ensures.reads, inr (_, c.in_ok-checked.ensures, inr (_, c.in_ok-take_program.ensures, inl (refused, refl))));
+      allowed = inr (_, c.in_ok-text.ensures.reads, inr (_, c.in_ok-checked.ensures, inl (refused, refl)));
       wrote = Appends-nil _;
     })
 
@@ -32,7 +25,7 @@ returns-in_err-obligations-clause-runs g c =
     let read = read_later g.F.Files _ _ c.read_text-2.new.files Derivation _ (Ok c.in_ok-steps.steps) c.in_ok-text.ensures.keeps c.in_ok-steps.ensures.reads in
     passed_on _ _ c.from_residual-in_err-obligations.ensures.1 (record {
       printed = [];
-      allowed = inr (_, c.in_ok-text.ensures.reads, inr (_, c.in_ok-checked.ensures, inr (_, c.in_ok-take_program.ensures, inr (_, read, inl (c.in_err-obligations.ensures, refl)))));
+      allowed = inr (_, c.in_ok-text.ensures.reads, inr (_, c.in_ok-checked.ensures, inr (_, read, inl (c.in_err-obligations.ensures, refl))));
       wrote = Appends-nil _;
     })
 
@@ -42,7 +35,7 @@ returns-in_err-print_accepted-clause-runs g c =
     let front = c.in_err-print_accepted.ensures.writes.0 in
     passed_on _ _ c.from_residual-in_err-print_accepted.ensures.1 (record {
       printed = _;
-      allowed = inr (_, c.in_ok-text.ensures.reads, inr (_, c.in_ok-checked.ensures, inr (_, c.in_ok-take_program.ensures, inr (_, read, inr (c.in_ok-obligations.obligations, c.in_ok-obligations.ensures, (c.in_err-print_accepted.ensures.writes.1, (front.0, refl)))))));
+      allowed = inr (_, c.in_ok-text.ensures.reads, inr (_, c.in_ok-checked.ensures, inr (_, read, inr (c.in_ok-obligations.obligations, c.in_ok-obligations.ensures, (c.in_err-print_accepted.ensures.writes.1, (front.0, refl))))));
       wrote = front.2;
     })
 
@@ -51,6 +44,6 @@ returns-clause-runs g c =
     let read = read_later g.F.Files _ _ c.read_text-2.new.files Derivation _ (Ok c.in_ok-steps.steps) c.in_ok-text.ensures.keeps c.in_ok-steps.ensures.reads in
     record {
       printed = _;
-      allowed = inr (_, c.in_ok-text.ensures.reads, inr (_, c.in_ok-checked.ensures, inr (_, c.in_ok-take_program.ensures, inr (_, read, inr (c.in_ok-obligations.obligations, c.in_ok-obligations.ensures, refl)))));
+      allowed = inr (_, c.in_ok-text.ensures.reads, inr (_, c.in_ok-checked.ensures, inr (_, read, inr (c.in_ok-obligations.obligations, c.in_ok-obligations.ensures, refl))));
       wrote = c.in_ok-print_accepted.ensures.writes;
     }

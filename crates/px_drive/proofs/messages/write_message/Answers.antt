@@ -3,6 +3,9 @@ use Rattle.px_drive.proofs.messages.write_message.Goals as goal
 pub returns-in-Usage-clause-writes : goal.returns-in-Usage-clause-writes
 returns-in-Usage-clause-writes g c = rw c.in-Usage.is c.write_line-in-Usage.ensures.writes
 
+pub returns-in-Rejected-clause-writes : goal.returns-in-Rejected-clause-writes
+returns-in-Rejected-clause-writes g c = rw c.in-Rejected.is c.write_rejected.ensures.writes
+
 pub returns-in-WriteFault-clause-writes : goal.returns-in-WriteFault-clause-writes
 returns-in-WriteFault-clause-writes g c = rw c.in-WriteFault.is c.write_line-in-WriteFault.ensures.writes
 

@@ -14,6 +14,3 @@ returns-in-Typing-clause-writes g c = rw (c.in-Typing.is, ← c.rule_of_typing.e
 
 pub returns-in-Descent-clause-writes : goal.returns-in-Descent-clause-writes
 returns-in-Descent-clause-writes g c = rw c.in-Descent.is c.write_descent.ensures.writes
-
-pub returns-in-Unbuilt-clause-writes : goal.returns-in-Unbuilt-clause-writes
-returns-in-Unbuilt-clause-writes g c = rw c.in-Unbuilt.is c.write_line.ensures.writes

@@ -1,4 +1,0 @@
-pub mod Validity
-pub mod Laws
-pub mod Examples
-pub mod ExampleLaws

@@ -1,0 +1,15 @@
+pub mod Lists
+pub mod Numbers
+pub mod Results
+pub mod StackLemmas
+pub mod Leading
+pub mod Trees
+pub mod Openings
+pub mod StepLemmas
+pub mod InstanceLemmas
+pub mod NoteLemmas
+pub mod Standing
+pub mod HeaderLemmas
+pub mod LineLemmas
+pub mod FeedLemmas
+pub mod RowLemmas

@@ -1,0 +1,7 @@
+pub mod States
+pub mod Refusals
+pub mod Ends
+pub mod Standings
+pub mod Replaying
+pub mod Keeping
+pub mod Laws
