@@ -38,7 +38,6 @@ pub mod Typing
 pub mod Clauses
 pub mod TypedPrograms
 pub mod TypedSequents
-pub mod PlainSequents
 pub mod Descent
 pub mod Holding
 pub mod Extending
@@ -49,10 +48,6 @@ pub mod Guards
 pub mod Noting
 pub mod Rows
 pub mod Derivations
-pub mod PlainSteps
-pub mod PlainDerivations
 pub mod Numbered
 pub mod Readable
 pub mod Spelling
-pub mod PlainSpelling
-pub mod Plain

@@ -8,7 +8,6 @@ use Rattle.px_terms.specs.declared.program.Declared.{Declared}
 use Rattle.px_terms.specs.declared.program.Declared.TheVariants as declared
 use Rattle.px_terms.specs.declared.program.Program.{Program}
 use Rattle.px_terms.specs.Clauses.{IsClauseOf}
-use Rattle.px_terms.specs.Holding.{Holds}
 use Rattle.px_terms.specs.Extending.{HoldsInExtensions}
 
 -- what a lemma says: its premises give its conclusion
@@ -25,10 +24,6 @@ pub record IsObligation (P : Program) (n : ℕ) (clause : Clause) : Type 0 where
   pub declared : Declared
   pub number : slice_get P.declared n ≡ Some declared
   pub says : IsDeclaredClause P declared clause
-
--- every obligation of the program holds
-pub record AllHold (P : Program) : Type 0 where
-  pub each : (n : ℕ) (clause : Clause) → IsObligation P n clause → Holds P clause
 
 -- every obligation of the program holds in each of its extensions
 pub record AllHoldInExtensions (P : Program) : Type 0 where

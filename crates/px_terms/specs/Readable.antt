@@ -1,12 +1,10 @@
 -- The rows that a text can hold: their numbers are below 2^32.
-use Rattle.std.specs.Prelude.{◌≡◌, ℕ, ◌<◌, ◌^◌, List, []}
+use Rattle.std.specs.Prelude.{ℕ, ◌<◌, ◌^◌, List}
 use Rattle.std.specs.List.{AllByRecursion}
 use Rattle.px_terms.specs.declared.row.Kind.{Kind}
 use Rattle.px_terms.specs.declared.row.Kind.TheVariants as kind
 use Rattle.px_terms.specs.declared.row.Target.{Target}
 use Rattle.px_terms.specs.declared.row.Target.TheVariants as target
-use Rattle.px_terms.specs.declared.row.PlainRow.{PlainRow}
-use Rattle.px_terms.specs.declared.row.PlainRow.TheVariants as row
 
 -- each number is below 2^32
 abbrev pub AreSmall : List ℕ → Type 0
@@ -23,10 +21,3 @@ IsReadableKind kind.Unfold = Unit {0}
 IsReadableKind kind.Select = Unit {0}
 IsReadableKind kind.Compare = Unit {0}
 IsReadableKind (kind.Fact n left_to_right) = n < 2 ^ 32
-
--- each number of the row is below 2^32, and a header has no variables
-abbrev pub IsReadable : PlainRow → Type 0
-IsReadable (row.Header n on) = (n < 2 ^ 32) × (on ≡ [])
-IsReadable (row.Same j) = j < 2 ^ 32
-IsReadable (row.Step t path k) = IsReadableTarget t × AreSmall path × IsReadableKind k
-IsReadable (row.CaseVar v) = v < 2 ^ 32

@@ -44,7 +44,7 @@ pub use px_base::{
     RawTy, RawTyKind, Text, limits,
 };
 pub use rooms::{instance_is_within, ty_is_within};
-pub use row::{Kind, PlainRow, Ref, Row, Side, Target, Tree};
+pub use row::{Kind, Ref, Row, Side, Target, Tree};
 pub use sameness::{same_fun, same_funs, same_term, same_terms, same_ty, same_tys};
 pub use sequent::{Context, Frame, Present, Sequent};
 pub use sizes::{size, size_of_terms, size_of_ty, size_of_tys};

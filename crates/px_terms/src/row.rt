@@ -36,30 +36,6 @@ pub enum Ref {
     Hypothesis,
 }
 
-/// A row of a derivation of a program over truth values.
-#[derive(Drop)]
-pub enum PlainRow {
-    /// The tree of this obligation follows, by induction on the variables `on`.
-    Header {
-        obligation: u32,
-        on: Items<u32>,
-    },
-    /// The sides of this alternative are one term.
-    Same {
-        alternative: u32,
-    },
-    /// A step at a place of one side.
-    Step {
-        target: Target,
-        path: Path,
-        kind: Kind,
-    },
-    /// The cases of a variable.
-    CaseVar {
-        variable: u32,
-    },
-}
-
 /// A row of a derivation: the header of an obligation's tree, or a row of the tree.
 #[derive(Drop)]
 pub enum Row {
