@@ -1,5 +1,5 @@
 -- What a line that is fed, and the end, make of the lines that a replay stands for.
-use Rattle.std.proofs.Common.{◌≡◌, ◌≢◌, ◌-◌, ◌<◌, ◌≤◌, map, reverse, All, ◌+◌, ◌^◌, ℕ, List, [], ◌∷◌, ◌++◌, length, Option, Some, None, Result, Ok, Err, refl, sym, ap, subst, ◌∙◌, arith, length-append}
+use Rattle.std.proofs.Common.{◌≡◌, ◌-◌, ◌<◌, ◌≤◌, reverse, All, ◌+◌, ◌^◌, ℕ, List, [], ◌∷◌, ◌++◌, length, Option, Some, None, Err, refl, sym, ap, subst, ◌∙◌, arith, length-append}
 use Rattle.px_terms.specs.declared.program.Program.{Program}
 use Rattle.px_terms.specs.declared.sequent.Sequent.{Sequent}
 use Rattle.px_terms.specs.declared.row.Row.{Row}
@@ -13,13 +13,13 @@ use Rattle.px_replay.specs.declared.ends.LineRefusal.{LineRefusal}
 use Rattle.px_replay.specs.declared.ends.LineRefusal.TheVariants as refusals
 use Rattle.px_replay.specs.declared.ends.FeedEnd.{FeedEnd}
 use Rattle.px_replay.specs.declared.ends.FeedEnd.TheVariants as ends
-use Rattle.px_replay.specs.States.{State, start, stays, Moves, MovesFrom, Begins, OpensTop, LineMoves, Lead, IsPartial, IsDerivationText, EndIsDerivation, at_end}
-use Rattle.px_replay.specs.Refusals.{IsDue, IsDueFrom, Fails, FailsAfter, IsOutOfOrder, BreaksRule}
+use Rattle.px_replay.specs.States.{State, start, stays, Moves, MovesFrom, LineMoves, Lead, IsPartial, IsDerivationText, EndIsDerivation, at_end}
+use Rattle.px_replay.specs.Refusals.{IsDue, IsDueFrom, Fails, FailsAfter}
 use Rattle.px_replay.specs.Ends.{refusal_at}
 use Rattle.px_replay.specs.Standings.{Standing, StandsFor, Fed}
 use Rattle.px_replay.specs.declared.open_sequents.Open.{Open}
 use Rattle.px_replay.specs.declared.open_sequents.Progress.{Progress}
-use Rattle.px_replay.specs.Keeping.{IsReached, IsKept}
+use Rattle.px_replay.specs.Keeping.{IsKept}
 use Rattle.px_replay.specs.Replaying.{IsRightlyMarked, IsSound, LineRefused, sequents_of, state_of}
 use Rattle.std.proofs.lemmas.List.Elements.{All-nil}
 use Rattle.std.proofs.lemmas.List.{length-reverse, length-map}

@@ -1,6 +1,6 @@
 -- What a header and a row do to the state, and why a line does not go on.
-use Rattle.std.proofs.Common.{◌≡◌, ◌≢◌, ◌<◌, ◌≤◌, ◌+◌, ◌-◌, ℕ, zero, suc, List, [], ◌∷◌, ◌++◌, length, map, reverse, slice_get, Some, All, Result, Ok, Err, IfErr, IsErr, IsErrAnd, IsOkUnless, OnOk, refl, sym, ap, subst, ◌∙◌, arith}
-use Rattle.std.proofs.lemmas.List.Elements.{All-nil, All-cons, All-head, All-tail, All-push, All-append}
+use Rattle.std.proofs.Common.{◌≡◌, ◌≢◌, ◌<◌, ◌≤◌, ◌+◌, ◌-◌, ℕ, zero, suc, List, [], ◌∷◌, ◌++◌, length, map, reverse, All, Result, Ok, Err, IfErr, IsErr, IsErrAnd, OnOk, refl, sym, ap, subst, ◌∙◌, arith}
+use Rattle.std.proofs.lemmas.List.Elements.{All-nil, All-cons, All-head, All-tail, All-push}
 use Rattle.std.proofs.lemmas.Option.{slice_get_within}
 use Rattle.px_terms.specs.declared.clause.Clause.{Clause}
 use Rattle.px_terms.specs.declared.program.Program.{Program}
@@ -22,10 +22,10 @@ use Rattle.px_replay.specs.declared.ends.LineRefusal.{LineRefusal}
 use Rattle.px_replay.specs.declared.ends.LineRefusal.TheVariants as refusals
 use Rattle.px_replay.specs.declared.open_sequents.Open.{Open}
 use Rattle.px_replay.specs.declared.open_sequents.Progress.{Progress}
-use Rattle.px_replay.specs.States.{State, Begins, OpensTop, MovesFrom, Moves, LineMoves}
-use Rattle.px_replay.specs.Refusals.{IsNextHeader, IsDue, IsDueFrom, Fails}
+use Rattle.px_replay.specs.States.{State, Begins, MovesFrom, Moves, LineMoves}
+use Rattle.px_replay.specs.Refusals.{IsNextHeader, IsDue, IsDueFrom}
 use Rattle.px_replay.specs.Ends.{line_refusal, row_refusal}
-use Rattle.px_replay.specs.Replaying.{IsRightlyMarked, child_within, sequents_of, state_of, IsSound, Leaves, RowRefused, LineRefused}
+use Rattle.px_replay.specs.Replaying.{IsRightlyMarked, child_within, sequents_of, state_of, IsSound, RowRefused, LineRefused}
 use Rattle.px_replay.proofs.StackLemmas.{top_sequent, pushed_sequents, pushed_marked}
 
 -- the obligation is one of those declared

@@ -1,5 +1,5 @@
 -- What a step makes of a sequent.
-use Rattle.std.proofs.Common.{◌≡◌, ◌≤◌, ◌<◌, ℕ, length, List, [], ◌∷◌, slice_get, slice_set, get_or, Option, Some, IfSome, Bool, IsTrue, ◌⊎◌, inl, inr, sym, ap, subst, ◌∙◌, All}
+use Rattle.std.proofs.Common.{◌≡◌, ◌≤◌, ◌<◌, ℕ, length, List, [], ◌∷◌, slice_get, slice_set, Option, Some, IfSome, Bool, IsTrue, ◌⊎◌, inl, inr, sym, ap, subst, ◌∙◌, All}
 use Rattle.std.proofs.lemmas.List.{length-set}
 use Rattle.std.proofs.lemmas.List.Elements.{All-set, All-get_or}
 use Rattle.px_base.specs.declared.limits.TheConstants.{FACTS}

@@ -9,11 +9,11 @@ use Rattle.px_terms.specs.declared.row.Row.TheVariants as row
 use Rattle.px_terms.specs.declared.row.Tree.{Tree}
 use Rattle.px_terms.specs.Rows.{Opens}
 use Rattle.px_terms.specs.Derivations as derivations
-use Rattle.px_terms.specs.Derivations.{DerivesObligation, begins_with, IsDerivation}
+use Rattle.px_terms.specs.Derivations.{DerivesObligation, begins_with}
 use Rattle.px_derive.specs.Spelling.{line_of}
 use Rattle.px_derive.specs.Spellable.{IsSpellable}
 use Rattle.px_soundness.specs.Laws.{EachStackIsTree}
-use Rattle.px_replay.specs.States.{State, start, Begins, OpensTop, MovesFrom, LineMoves, Lead, stays, goes_on, at_end, rows_from, IsDerivationText, EndIsDerivation}
+use Rattle.px_replay.specs.States.{State, start, Begins, OpensTop, MovesFrom, Lead, stays, goes_on, at_end, rows_from, IsDerivationText, EndIsDerivation}
 use Rattle.px_replay.proofs.Leading.{lead_append}
 
 -- The lines are those of trees of the obligations from this number on, to the last.

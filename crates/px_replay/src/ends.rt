@@ -2,7 +2,6 @@
 ghost use Rattle.std.specs.Prelude.{◌≡◌};
 ghost use Rattle.px_rewrite.specs.declared.steps.StepEnd.TheVariants as step_ends;
 ghost use Rattle.px_cases.specs.declared.ends.SplitEnd.TheVariants as split_ends;
-ghost use Rattle.px_derive.specs.declared.line_end.LineEnd.TheVariants as line_ends;
 ghost use Rattle.px_replay.specs.declared.ends.RowEnd.TheVariants as row_ends;
 ghost use Rattle.px_replay.specs.declared.ends.LineRefusal.TheVariants as refusals;
 ghost use Rattle.px_replay.specs.Ends.{line_refusal, row_refusal};

@@ -1,4 +1,4 @@
-use Rattle.std.proofs.Common.{◌≡◌, ◌∙◌, [], subst, sym, All}
+use Rattle.std.proofs.Common.{◌∙◌, subst, sym, All}
 use Rattle.std.proofs.lemmas.List.Elements.{All-nil}
 use Rattle.px_terms.specs.Sequents.{IsWithinLimits}
 use Rattle.px_replay.proofs.InstanceLemmas.{all_pushed, premises_small, others_small, last_small, noted_none, noted_some}
