@@ -30,16 +30,18 @@ accepted_holds ends sound P checked progress fed refusal whole is kept none all 
 pub accepted : EndsAreDerivations → (P : Program) (progress : Progress) (fed : ℕ) (refusal : Option FeedEnd) (whole : Standing) (count : ℕ) → seen P progress fed refusal ≡ whole → (progress.next ≡ length P.declared) × (progress.stack ≡ []) → count ≡ length P.declared →
     (lines : List (List ℕ)) → StandsFor whole lines → IsDerivationText whole.program lines × (count ≡ length whole.program.declared)
 accepted ends P progress fed refusal whole count is all counted lines stands =
-    let here : StandsFor (seen P progress fed refusal) lines = subst (λ (r : Standing). StandsFor r lines) (sym is) stands in
-    (subst (λ (r : Standing). IsDerivationText r.program lines) is (is_finished ends P lines (state_of progress) here.leads (ended P progress all.0 all.1)),
-     subst (λ (r : Standing). count ≡ length r.program.declared) is counted)
+    let here : StandsFor (seen P progress fed refusal) lines = subst (λ (r : Standing). StandsFor r lines) (sym is) stands in (
+      subst (λ (r : Standing). IsDerivationText r.program lines) is (is_finished ends P lines (state_of progress) here.leads (ended P progress all.0 all.1)),
+      subst (λ (r : Standing). count ≡ length r.program.declared) is counted,
+    )
 
 -- and else they are none, and the line after them is missing
 pub not_accepted : OneState → EndsAreDerivations → (P : Program) → IsChecked P → (progress : Progress) (fed : ℕ) (refusal : Option FeedEnd) (whole : Standing) → seen P progress fed refusal ≡ whole → ((progress.next ≡ length P.declared) × (progress.stack ≡ []) → ⊥) →
     (lines : List (List ℕ)) → StandsFor whole lines → (fed + 1 ≡ length lines + 1) × (why.End ≡ why.End) × ¬ IsDerivationText whole.program lines
 not_accepted one_state ends P checked progress fed refusal whole is unfinished lines stands =
     let here : StandsFor (seen P progress fed refusal) lines = subst (λ (r : Standing). StandsFor r lines) (sym is) stands in
-    let other : state_of progress ≡ at_end P → ⊥ = λ same. unfinished (ap (λ (s : State). s.next) same, none_open progress.stack (ap (λ (s : State). s.stack) same)) in
-    (ap (λ (k : ℕ). k + 1) here.count,
-     refl,
-     subst (λ (r : Standing). ¬ IsDerivationText r.program lines) is (not_finished one_state ends P checked lines (state_of progress) here.leads other))
+    let other : state_of progress ≡ at_end P → ⊥ = λ same. unfinished (ap (λ (s : State). s.next) same, none_open progress.stack (ap (λ (s : State). s.stack) same)) in (
+      ap (λ (k : ℕ). k + 1) here.count,
+      refl,
+      subst (λ (r : Standing). ¬ IsDerivationText r.program lines) is (not_finished one_state ends P checked lines (state_of progress) here.leads other),
+    )

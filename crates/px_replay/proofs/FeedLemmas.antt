@@ -62,10 +62,11 @@ no_partial one_row one_state P checked lines line state w leads fails partial =
 -- a line was refused behind the lines that the replay stands for
 pub fed_refused : OneRow → OneState → (old new : Standing) (lines : List (List ℕ)) (line : List ℕ) (refusal : LineRefusal) → IsChecked old.program → StandsFor old lines → new.program ≡ old.program → LineRefused old.program old.state line refusal →
     Fed lines line new (Err (refusal_at (old.fed + 1) refusal))
-fed_refused one_row one_state old new lines line (refusals.Wrong w) checked stands program refused =
-    (ap (λ (k : ℕ). k + 1) stands.count,
-     subst (λ (P : Program). FailsAfter P lines line w) (sym program) (record { state = old.state; leads = stands.leads; fails = refused }),
-     subst (λ (P : Program). ¬ IsPartial P (lines ++ line ∷ [])) (sym program) (no_partial one_row one_state old.program checked lines line old.state w stands.leads refused))
+fed_refused one_row one_state old new lines line (refusals.Wrong w) checked stands program refused = (
+  ap (λ (k : ℕ). k + 1) stands.count,
+  subst (λ (P : Program). FailsAfter P lines line w) (sym program) (record { state = old.state; leads = stands.leads; fails = refused }),
+  subst (λ (P : Program). ¬ IsPartial P (lines ++ line ∷ [])) (sym program) (no_partial one_row one_state old.program checked lines line old.state w stands.leads refused),
+)
 fed_refused one_row one_state old new lines line refusals.NoMemory checked stands program refused = tt
 
 -- where the state is not the end, the lines are no derivation

@@ -63,13 +63,14 @@ no_header P old r none not due = not (subst (λ (os : List Open). IsDueFrom P ol
 pub header_breaks : (P : Program) (old : Progress) (r : Row) (on : List ℕ) (clause : Clause) → old.stack ≡ [] → r ≡ row.Header old.next on → old.next < length P.declared → ((own : Clause) → IsObligation P old.next own → own ≡ clause) →
     (AreFrameVariables clause on → ⊥) → RowRefused P (state_of old) r (refusals.Wrong why.Rule)
 header_breaks P old r on clause none header below only not =
-    let due : IsDueFrom P old.next [] r = record { there = below; on = on; header = header } in
-    (subst (λ (os : List Open). IsDueFrom P old.next (sequents_of os) r) (sym none) due,
-     λ new moves.
-        let begins : Begins P old.next r new = subst (λ (os : List Open). MovesFrom P old.next (sequents_of os) r new) none moves in
-        let headers : row.Header old.next begins.on ≡ row.Header old.next on = sym begins.header ∙ header in
-        let lists : begins.on ≡ on = cc in
-        not (subst (λ (c : Clause). AreFrameVariables c on) (only begins.own begins.obligation) (subst (AreFrameVariables begins.own) lists begins.variables)))
+    let due : IsDueFrom P old.next [] r = record { there = below; on = on; header = header } in (
+      subst (λ (os : List Open). IsDueFrom P old.next (sequents_of os) r) (sym none) due,
+      λ new moves.
+          let begins : Begins P old.next r new = subst (λ (os : List Open). MovesFrom P old.next (sequents_of os) r new) none moves in
+          let headers : row.Header old.next begins.on ≡ row.Header old.next on = sym begins.header ∙ header in
+          let lists : begins.on ≡ on = cc in
+          not (subst (λ (c : Clause). AreFrameVariables c on) (only begins.own begins.obligation) (subst (AreFrameVariables begins.own) lists begins.variables)),
+    )
 
 -- memory that is wanting refuses nothing
 pub wants_memory : {X : Type 0} (P : Program) (s : State) (r : Row) (result : Result X LineRefusal) → IsErr result × IsErrAnd result (λ end. end ≡ refusals.NoMemory) → IfErr result (RowRefused P s r)

@@ -50,4 +50,3 @@ pub moved_on : (children popped : List Sequent) (child : Sequent) (stack now all
 moved_on children popped child stack now all o split pushed o_is so_far =
     let turned : reverse children ≡ child ∷ reverse popped = ap (λ (ss : List Sequent). reverse ss) split ∙ reverse-append popped (child ∷ []) in
     ap (λ (os : List Open). os ++ map child_within (reverse popped)) (pushed ∙ ap (λ (x : Open). stack ++ x ∷ []) o_is) ∙ (append_assoc stack (child_within child ∷ []) (map child_within (reverse popped)) ∙ (ap (λ (ss : List Sequent). stack ++ map child_within ss) (sym turned) ∙ so_far))
-

@@ -67,7 +67,6 @@ each_cons P n tree trees first each zero t found = let e : Some tree ≡ Some t 
 each_cons P n tree trees first each (suc i) t found = let e : (n + 1) + i ≡ n + suc i = omega arith in subst (λ (k : ℕ). DerivesObligation P k t) e (each i t found)
 
 module _ (stack_is_tree : EachStackIsTree) where
-
   -- a header before what closes the first sequent
   with_header : (P : Program) (n : ℕ) (r : Row) (now : State) (lines : List (List ℕ)) → IsSpellable P.names r → Begins P n r now → Closes P now.next now.stack lines → Rest P n (line_of P.names r ∷ lines)
   with_header P n r now lines spellable begins closes =

@@ -31,10 +31,7 @@ pub enum Why {
 #[derive(Clone, Copy, Debug, PartialEq, Eq)]
 pub enum FeedEnd {
     /// This line, counted from 1, is wrong.
-    Rejected {
-        line: u64,
-        why: Why,
-    },
+    Rejected { line: u64, why: Why },
     /// No memory was left.
     NoMemory,
 }
@@ -49,9 +46,7 @@ pub struct Accepted {
 #[derive(Clone, Copy, Debug, PartialEq, Eq)]
 pub(crate) enum LineRefusal {
     /// It is wrong.
-    Wrong {
-        why: Why,
-    },
+    Wrong { why: Why },
     /// No memory was left.
     NoMemory,
 }

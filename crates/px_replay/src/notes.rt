@@ -150,7 +150,9 @@ pub(crate) fn note_children(
     ensures only { (children : List AnySequent) → Opens all.now number top.sequent (rows.Note reference sigma) children → IsOkUnless result RowEnd.NoMemory }
 {
     match reference {
-        Ref::Property { .. } | Ref::Lemma { .. } => note(alloc, all, number, top, reference, &sigma),
+        Ref::Property { .. } | Ref::Lemma { .. } => note(
+            alloc, all, number, top, reference, &sigma,
+        ),
         Ref::Hypothesis => hypothesis(alloc, all, number, top, sigma),
     }
 }
