@@ -1,6 +1,7 @@
 -- Which functions may be put in, as the code finds it.
 use Rattle.std.proofs.Common.{◌≡◌, ◌↔◌, ◌⊎◌, inl, inr, ℕ, suc, ◌+◌, ◌<◌, ◌≤◌, Bool, true, false, IsTrue, List, [], ◌∷◌, length, map, drop, get_or, Some, refl, sym, ◌∙◌, ap, subst}
 use Rattle.std.specs.Prelude.{slice_get}
+use Rattle.std.proofs.lemmas.Bool.{false≢true}
 use Rattle.std.proofs.lemmas.List.{length-map}
 use Rattle.px_base.specs.declared.prop.Prop.{Prop}
 use Rattle.px_base.specs.declared.prop.PropSet.{PropSet}
@@ -85,8 +86,8 @@ module _ (P : Program) (context : Context) (f : Fun) (params : List Ty) (T : Ty)
     pub definition_is : (r : Bool) → Takes D → (IsTrue r ↔ Gives D) → IsTrue r ↔ IsFunction P context f [] params T
     definition_is r takes h = (λ t. there takes (h.0 t), λ is. h.1 (back (asked (Def n) e is)).1)
 
-    pub takes_others : (Takes D → ⊥) → IsTrue false ↔ IsFunction P context f [] params T
-    takes_others other = fails (λ is. other (back (asked (Def n) e is)).0)
+    pub takes_others : (r : Bool) → (IsTrue r ↔ Takes D) → r ≡ false → IsTrue r ↔ IsFunction P context f [] params T
+    takes_others r tells unset = (λ t. absurd (false≢true (sym unset ∙ t)), λ is. tells.1 (back (asked (Def n) e is)).0)
 
   at_most_is : (r : Bool) → f.head ≡ Wle → f.types ≡ [] → (IsTrue r ↔ ((type.Word ∷ type.Word ∷ [] ≡ params) × (bool_type ≡ T))) →
       IsTrue r ↔ IsFunction P context f [] params T

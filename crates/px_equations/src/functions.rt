@@ -78,9 +78,7 @@ fn is_function(
 fn takes_types(program: &Program, tparams: u32, def: &Def, types: &Items<Ty>) -> bool
     ensures { IsTrue result ↔ ((length types.now ≡ def.now.tparams) × ((def.now.funs ≡ []) × AreTypes program.now tparams types.now)) }
 {
-    def.tparams as usize == types.len()
-        && def.funs.is_empty()
-        && are_types(types, program, tparams)
+    def.tparams as usize == types.len() && def.funs.is_empty() && are_types(types, program, tparams)
 }
 
 /// Whether the definition's type at the one types is the wanted type with the others put in. It takes no memory.

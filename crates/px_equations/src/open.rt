@@ -81,18 +81,14 @@ fn open_in<'t, 'p: 't>(
 }
 
 /// The clause of the lemma, where it stands below the obligation of this number. It takes no memory.
-fn lemma_in<'t, 'p: 't>(
-    all: &'t Obligations<'p>,
-    number: u32,
-    lemma: u32,
-) -> Option<OpenClause<'t>>
+fn lemma_in<'t, 'p: 't>(all: &'t Obligations<'p>, number: u32, lemma: u32) -> Option<OpenClause<'t>>
     ensures open { (own : Said) → TellsFor all.now number own (Ref.Lemma lemma) result }
     ensures only { (own clause : Said) → IsOpen all.now number own (Ref.Lemma lemma) clause → IsThatOpen clause result }
 {
     let first = all.lemma_below(number, lemma)?;
     match all.clause(first) {
         Some(clause) => Some(OpenClause::Listed(clause)),
-        None => None,
+        None => unreachable!(),
     }
 }
 
