@@ -86,10 +86,10 @@ fn lemma_in<'t, 'p: 't>(all: &'t Obligations<'p>, number: u32, lemma: u32) -> Op
     ensures only { (own clause : Said) → IsOpen all.now number own (Ref.Lemma lemma) clause → IsThatOpen clause result }
 {
     let first = all.lemma_below(number, lemma)?;
-    match all.clause(first) {
-        Some(clause) => Some(OpenClause::Listed(clause)),
-        None => unreachable!(),
-    }
+    let Some(clause) = all.clause(first) else {
+        unreachable!()
+    };
+    Some(OpenClause::Listed(clause))
 }
 
 /// The clause of the property, where it is known of the function below the obligation of this number. It takes memory.

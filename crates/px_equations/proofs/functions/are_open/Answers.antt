@@ -25,19 +25,29 @@ returns-then-not-is_function c =
 pub returns-then-not-includes : goal.returns-then-not-includes
 returns-then-not-includes c =
     let below : c.loop-index.index < length c.as_slice-takes.result.now = rw (← c.if-funs-takes.false) c.loop-index-test.true in
+    let tells =
+    has_all c.known-properties.result c.index-takes-index.result.props
+    (IsKnown c.args.all.now (behind c.args.number) c.args.filling.now.context.now c.index-funs-index.result.head) c.includes.result
+    (c.known-properties.ensures c.args.filling.now.context.now (sym c.as_slice.ensures)) c.includes.ensures
+    in
     not_assumed c.args.all.now c.args.number c.args.filling.now.context.now c.args.filling.now.sigma.now.types c.args.filling.now.sigma.now.funs
     c.as_slice-funs.result.now c.args.filling.now.clause.now.funs c.as_slice-takes.result.now c.as_slice-funs.ensures c.as_slice-takes.ensures
     c.loop-index.index c.index-funs-index.result c.index-takes-index.result c.loop-index-test.true below c.index-funs-index.is c.index-takes-index.is
-    (not_of c.includes.result (has_all c.known-properties.result c.index-takes-index.result.props (IsKnown c.args.all.now (behind c.args.number) c.args.filling.now.context.now c.index-funs-index.result.head) c.includes.result (c.known-properties.ensures c.args.filling.now.context.now (sym c.as_slice.ensures)) c.includes.ensures) c.if-not-includes.true) c.loop-index.invariant
+    (not_of c.includes.result tells c.if-not-includes.true) c.loop-index.invariant
 
 pub loop-index-preserved : goal.loop-index-preserved
 loop-index-preserved c =
     let below : c.loop-index.index < length c.as_slice-takes.result.now = rw (← c.if-funs-takes.false) c.loop-index-test.true in
+    let tells =
+    has_all c.known-properties.result c.index-takes-index.result.props
+    (IsKnown c.args.all.now (behind c.args.number) c.args.filling.now.context.now c.index-funs-index.result.head) c.includes.result
+    (c.known-properties.ensures c.args.filling.now.context.now (sym c.as_slice.ensures)) c.includes.ensures
+    in
     open_next c.args.all.now c.args.number c.args.filling.now.context.now c.args.filling.now.sigma.now.types c.args.filling.now.sigma.now.funs
     c.as_slice-funs.result.now c.args.filling.now.clause.now.funs c.as_slice-takes.result.now c.as_slice-funs.ensures c.as_slice-takes.ensures
     c.loop-index.index c.index-funs-index.result c.index-takes-index.result c.program-program.result.now c.loop-index-test.true below
     c.index-funs-index.is c.index-takes-index.is (c.program-program.ensures.same ∙ c.checked.ensures.same)
-    (c.is_function.ensures.0 c.if-not-is_function.false) ((has_all c.known-properties.result c.index-takes-index.result.props (IsKnown c.args.all.now (behind c.args.number) c.args.filling.now.context.now c.index-funs-index.result.head) c.includes.result (c.known-properties.ensures c.args.filling.now.context.now (sym c.as_slice.ensures)) c.includes.ensures).0 c.if-not-includes.false) c.loop-index.invariant
+    (c.is_function.ensures.0 c.if-not-is_function.false) (tells.0 c.if-not-includes.false) c.loop-index.invariant
 
 pub returns : goal.returns
 returns c =
