@@ -1,4 +1,5 @@
--- The definition of a declared property can be counted: the property fits it, and its clause has few variables.
+-- What is declared in a typed program has a clause, and the definition of a declared property can be counted: the property fits it,
+-- and its clause has few variables.
 use Rattle.std.proofs.Common.{◌≡◌, ℕ, ◌+◌, ◌<◌, ◌≤◌, ◌^◌, List, [], ◌∷◌, length, replicate, slice_get, Some, refl, ◌∙◌, ap, subst, arith, lit<}
 use Rattle.std.proofs.lemmas.List.{length-map, length-append, length-replicate}
 use Rattle.px_terms.specs.limits.TheConstants.{CLAUSE_VARIABLES}
@@ -18,11 +19,11 @@ use Rattle.px_terms.specs.Typing.{IsFunction}
 use Rattle.px_terms.specs.Typing as typing
 use Rattle.px_terms.specs.Clauses.{says, IsClauseOf}
 use Rattle.px_terms.specs.Clauses as clauses
-use Rattle.px_terms.specs.Obligations.{IsObligation, of_property}
+use Rattle.px_terms.specs.Obligations.{IsObligation, lemma_clause, of_property, of_lemma}
 use Rattle.px_terms.specs.Numbered.{HasNumbers}
 use Rattle.px_terms.specs.TypedPrograms.{Fits, IsTyped}
 use Rattle.px_props.specs.Signatures.{IsCounted}
-use Rattle.px_equations.specs.Listed.{IsDeclaredCounted}
+use Rattle.px_equations.specs.Listed.{HasClause, IsDeclaredCounted}
 use Rattle.px_equations.proofs.Lists.{found_one}
 
 same_number : (n m : ℕ) → Def n ≡ Def m → n ≡ m
@@ -90,3 +91,10 @@ declared_is_counted P number (declared.Property n p) typed numbers stands =
     let obligation : IsObligation P number fits.clause = record { declared = declared.Property n p; number = stands; says = of_property fits.says } in
     property_is_counted P n p fits (numbers.clauses number fits.clause obligation).funs
 declared_is_counted P number (declared.Lemma n) typed numbers stands = tt
+
+pub declared_has_clause : (P : Program) (number : ℕ) (d : Declared) → IsTyped P → slice_get P.declared number ≡ Some d → HasClause P d
+declared_has_clause P number (declared.Property n p) typed stands =
+    let fits : Fits P [] (Def n) p = (typed.properties number n p stands).fits in
+    record { clause = fits.clause; says = of_property fits.says }
+declared_has_clause P number (declared.Lemma n) typed stands =
+    let there = typed.lemmas number n stands in record { clause = lemma_clause there.0; says = of_lemma there.1 refl }

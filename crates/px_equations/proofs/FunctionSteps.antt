@@ -1,6 +1,7 @@
 -- Which functions may be put in, as the code finds it.
 use Rattle.std.proofs.Common.{◌≡◌, ◌↔◌, ◌⊎◌, inl, inr, ℕ, suc, ◌+◌, ◌<◌, ◌≤◌, Bool, true, false, IsTrue, List, [], ◌∷◌, length, map, drop, get_or, Some, refl, sym, ◌∙◌, ap, subst}
 use Rattle.std.specs.Prelude.{slice_get}
+use Rattle.std.proofs.lemmas.Bool.{false≢true}
 use Rattle.std.proofs.lemmas.List.{length-map}
 use Rattle.px_base.specs.declared.prop.Prop.{Prop}
 use Rattle.px_base.specs.declared.prop.PropSet.{PropSet}
@@ -53,38 +54,40 @@ module _ (P : Program) (context : Context) (f : Fun) (params : List Ty) (T : Ty)
   asked : (h : Head) → f.head ≡ h → IsFunction P context f [] params T → Asks P context h f.types [] params T
   asked h e is = subst (λ (k : Head). Asks P context k f.types [] params T) e (asks is)
 
-  pub definition_is : (n : ℕ) (D : definition.Def) (looked : List definition.Def) (r : Bool) → f.head ≡ Def n → looked ≡ P.defs →
-      Some D ≡ slice_get looked n →
-      (IsTrue r ↔ ((length f.types ≡ D.tparams) × ((D.funs ≡ []) × (AreTypes P context.tparams f.types
-      × ((tys_instance f.types D.params ≡ params) × (ty_instance f.types D.result ≡ T)))))) →
-      IsTrue r ↔ IsFunction P context f [] params T
-  definition_is n D looked r e same at h = (λ t. there (h.0 t), λ is. h.1 (back (asked (Def n) e is)))
-    where
-      stands : slice_get P.defs n ≡ Some D
-      stands = ap (λ (ds : List definition.Def). slice_get ds n) (sym same) ∙ sym at
+  -- the definition takes no functions, and these types
+  abbrev Takes : definition.Def → Type 0
+  Takes D = (length f.types ≡ D.tparams) × ((D.funs ≡ []) × AreTypes P context.tparams f.types)
 
-      there : (length f.types ≡ D.tparams) × ((D.funs ≡ []) × (AreTypes P context.tparams f.types
-          × ((tys_instance f.types D.params ≡ params) × (ty_instance f.types D.result ≡ T)))) → IsFunction P context f [] params T
-      there (count, (none, (are, (is, gives)))) =
-          made (Def n) f.types e refl
-          (typing.of_definition stands count are (sym (ap (map (fn_type_instance f.types)) none)) (sym is) (sym gives))
+  -- its type at these types is the one that is wanted
+  abbrev Gives : definition.Def → Type 0
+  Gives D = (tys_instance f.types D.params ≡ params) × (ty_instance f.types D.result ≡ T)
 
-      back : Asks P context (Def n) f.types [] params T → (length f.types ≡ D.tparams) × ((D.funs ≡ []) × (AreTypes P context.tparams f.types
-          × ((tys_instance f.types D.params ≡ params) × (ty_instance f.types D.result ≡ T))))
-      back (E, found, count, are, takes, is, gives) =
-          let one : E ≡ D = found_one P.defs n E D found stands in (
+  module _ (n : ℕ) (D : definition.Def) (looked : List definition.Def) (e : f.head ≡ Def n) (same : looked ≡ P.defs) (at : Some D ≡ slice_get looked n) where
+    stands : slice_get P.defs n ≡ Some D
+    stands = ap (λ (ds : List definition.Def). slice_get ds n) (sym same) ∙ sym at
+
+    there : Takes D → Gives D → IsFunction P context f [] params T
+    there (count, (none, are)) (is, gives) =
+        made (Def n) f.types e refl (typing.of_definition stands count are (sym (ap (map (fn_type_instance f.types)) none)) (sym is) (sym gives))
+
+    back : Asks P context (Def n) f.types [] params T → Takes D × Gives D
+    back (E, found, count, are, takes, is, gives) =
+        let one : E ≡ D = found_one P.defs n E D found stands in (
+          (
             count ∙ ap (λ (F : definition.Def). F.tparams) one,
-            (
-              ap (λ (F : definition.Def). F.funs) (sym one) ∙ none_mapped (fn_type_instance f.types) E.funs takes,
-              (
-                are,
-                (
-                  sym (is ∙ ap (λ (F : definition.Def). tys_instance f.types F.params) one),
-                  sym (gives ∙ ap (λ (F : definition.Def). ty_instance f.types F.result) one),
-                ),
-              ),
-            ),
-          )
+            (ap (λ (F : definition.Def). F.funs) (sym one) ∙ none_mapped (fn_type_instance f.types) E.funs takes, are),
+          ),
+          (
+            sym (is ∙ ap (λ (F : definition.Def). tys_instance f.types F.params) one),
+            sym (gives ∙ ap (λ (F : definition.Def). ty_instance f.types F.result) one),
+          ),
+        )
+
+    pub definition_is : (r : Bool) → Takes D → (IsTrue r ↔ Gives D) → IsTrue r ↔ IsFunction P context f [] params T
+    definition_is r takes h = (λ t. there takes (h.0 t), λ is. h.1 (back (asked (Def n) e is)).1)
+
+    pub takes_others : (r : Bool) → (IsTrue r ↔ Takes D) → r ≡ false → IsTrue r ↔ IsFunction P context f [] params T
+    takes_others r tells unset = (λ t. absurd (false≢true (sym unset ∙ t)), λ is. tells.1 (back (asked (Def n) e is)).0)
 
   at_most_is : (r : Bool) → f.head ≡ Wle → f.types ≡ [] → (IsTrue r ↔ ((type.Word ∷ type.Word ∷ [] ≡ params) × (bool_type ≡ T))) →
       IsTrue r ↔ IsFunction P context f [] params T

@@ -14,7 +14,7 @@ use Rattle.px_terms.specs.declared.program.Program.{Program}
 use Rattle.px_terms.specs.Clauses.{IsClauseOf}
 use Rattle.px_terms.specs.Obligations.{IsDeclaredClause, IsObligation, lemma_clause, of_property, of_lemma}
 use Rattle.px_equations.specs.declared.index.Index.{Index}
-use Rattle.px_equations.specs.Listed.{IsOnlyDeclared, IsOnlyClause, AreListed, IsListing}
+use Rattle.px_equations.specs.Listed.{HasClause, IsOnlyDeclared, IsOnlyClause, AreListed, IsListing}
 use Rattle.px_equations.proofs.Lists.{found_one, found_more}
 
 -- what a declared clause gives, by what is declared
@@ -25,6 +25,19 @@ Declares P (declared.Lemma i) clause = (l : proposition.Lemma) × (slice_get P.l
 pub declares : {P : Program} {d : Declared} {clause : Clause} → IsDeclaredClause P d clause → Declares P d clause
 declares (of_property is) = is
 declares (of_lemma {l = l} stands e) = (l, stands, e)
+
+-- a lemma that has a clause is there
+pub lemma_stands : (P : Program) (d : Declared) (i : ℕ) (looked : List proposition.Lemma) → HasClause P d → d ≡ declared.Lemma i → looked ≡ P.lemmas →
+    None ≡ slice_get looked i → ⊥
+lemma_stands P d i looked has is same none =
+    there (subst (λ (e : Declared). Declares P e has.clause) is (declares has.says)) (subst (λ (ls : List proposition.Lemma). None ≡ slice_get ls i) same none)
+  where
+    there : Declares P (declared.Lemma i) has.clause → None ≡ slice_get P.lemmas i → ⊥
+    there (l, stands, e) lacks = let gone : None ≡ Some l = lacks ∙ stands in absurd cc
+
+-- a property that has a clause fits the definition
+pub property_fits : (P : Program) (n : ℕ) (p : Prop) → HasClause P (declared.Property n p) → ((clause : Clause) → IsClauseOf P [] (Def n) p clause → ⊥) → ⊥
+property_fits P n p has none = none has.clause (declares has.says)
 
 -- the one clause of a property
 pub only_property : (P : Program) (n : ℕ) (p : Prop) (found : Clause) → IsClauseOf P [] (Def n) p found →

@@ -11,6 +11,11 @@ use Rattle.px_descent.specs.Checked.{IsChecked}
 use Rattle.px_equations.specs.declared.index.Index.{Index}
 use Rattle.px_equations.specs.Index.{IsIndex}
 
+-- What is declared has a clause: the lemma is there, or the property fits the definition.
+pub record HasClause (P : Program) (d : Declared) : Type 0 where
+  pub clause : Clause
+  pub says : IsDeclaredClause P d clause
+
 -- the definition of a declared property takes no more than can be counted
 abbrev pub IsDeclaredCounted : Program → Declared → Type 0
 IsDeclaredCounted P (declared.Property n p) = IsCounted P [] (Def n)

@@ -5,9 +5,9 @@ ghost use Rattle.px_terms.specs.TypedPrograms.{IsTyped};
 ghost use Rattle.px_terms.specs.Numbered.{HasNumbers};
 ghost use Rattle.px_terms.specs.Obligations as obligations;
 ghost use Rattle.px_props.specs.Signatures.{IsCounted};
-ghost use Rattle.px_equations.specs.Listed.{AreListed, IsDeclaredCounted, IsOnlyDeclared};
+ghost use Rattle.px_equations.specs.Listed.{AreListed, HasClause, IsDeclaredCounted, IsOnlyDeclared};
 
-use px_props::clause_of;
+use px_props::{ClauseEnd, clause_of};
 use px_terms::{
     Clause, Declared, EquationList, Head, Lemma, NoMemory, Program, Prop, copy_equation,
     copy_equations, copy_fn_types, copy_tys,
@@ -29,34 +29,36 @@ pub(crate) fn clauses_of(alloc: Global, program: &Program) -> Result<Items<Claus
     Ok(clauses)
 }
 
-/// The one clause of a declared obligation. It takes memory. Where the program has no such lemma, or the property does not fit
-/// the definition, which is so in no typed program, it says that there is no memory.
+/// The one clause of a declared obligation: the lemma is there, and the property fits the definition. It takes memory.
 fn declared_clause(alloc: Global, program: &Program, declared: Declared) -> Result<Clause, NoMemory>
-    requires { IsDeclaredCounted program.now declared }
+    requires has { HasClause program.now declared }
+    requires counted { IsDeclaredCounted program.now declared }
     ensures { IfOk result (IsOnlyDeclared program.now declared) }
 {
     match declared {
         Declared::Property { def, prop } => property_clause(alloc, program, def, prop),
         Declared::Lemma { lemma } => match at(program.lemmas.as_slice(), lemma as usize) {
             Some(said) => said_by(alloc, said),
-            None => Err(NoMemory),
+            None => unreachable!(),
         },
     }
 }
 
-/// The clause of a property of a definition. It takes memory.
+/// The clause of a property that fits the definition. It takes memory.
 fn property_clause(
     alloc: Global,
     program: &Program,
     number: u32,
     prop: Prop,
 ) -> Result<Clause, NoMemory>
-    requires { IsCounted program.now [] (Head.Def number) }
+    requires has { HasClause program.now (Declared.Property number prop) }
+    requires counted { IsCounted program.now [] (Head.Def number) }
     ensures { IfOk result (IsOnlyDeclared program.now (Declared.Property number prop)) }
 {
     match clause_of(alloc, program, Head::Def(number), &[], prop) {
         Ok(clause) => Ok(clause),
-        Err(_end) => Err(NoMemory),
+        Err(ClauseEnd::Shape) => unreachable!(),
+        Err(ClauseEnd::NoMemory) => Err(NoMemory),
     }
 }
 

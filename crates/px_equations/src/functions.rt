@@ -1,11 +1,9 @@
 //! Functions that may stand for the function variables of a clause.
 
 ghost use Rattle.std.specs.Prelude.{◌≡◌, ◌↔◌, [], ◌∷◌, IsTrue, map, length};
-ghost use Rattle.px_base.specs.declared.prop.Prop.{Prop as Property};
-ghost use Rattle.px_base.specs.PropSets.{HasProp};
 ghost use Rattle.px_terms.specs.declared.types.Ty.TheVariants as kinds;
 ghost use Rattle.px_terms.specs.Types.{fn_type_instance, ty_instance, tys_instance};
-ghost use Rattle.px_terms.specs.Typing.{AreTypes, IsFunction, IsKnown, behind};
+ghost use Rattle.px_terms.specs.Typing.{AreTypes, IsFunction};
 ghost use Rattle.px_terms.specs.Noting.{AreOpenArguments};
 ghost use Rattle.px_terms.specs.Programs.{bool_type};
 
@@ -14,7 +12,7 @@ use crate::formed::are_types;
 use crate::instances::Filling;
 use crate::known::{includes, known};
 use crate::obligations::Obligations;
-use px_terms::{Def, FnType, Fun, Head, Program, PropSet, Ty};
+use px_terms::{Def, FnType, Fun, Head, Program, Ty};
 use sqlite_items::{Items, at};
 use std::alloc::Global;
 
@@ -40,27 +38,12 @@ pub(crate) fn are_open(
         if !is_function(alloc, program, filling, fun, wanted) {
             return false;
         }
-        if !has_assumed(all, number, filling, fun.head, wanted.props) {
+        let properties = known(all, number, filling.context.funs.as_slice(), fun.head);
+        if !includes(properties, wanted.props) {
             return false;
         }
     }
     true
-}
-
-/// Whether each property of the set is known of the function behind so many obligations. It takes no memory.
-fn has_assumed(
-    all: &Obligations<'_>,
-    number: u32,
-    filling: &Filling<'_>,
-    head: Head,
-    assumed: PropSet,
-) -> bool
-    ensures { IsTrue result ↔ ((p : Property) → HasProp assumed p → IsKnown all.now (behind number) filling.now.context.now head p) }
-{
-    includes(
-        known(all, number, filling.context.funs.as_slice(), head),
-        assumed,
-    )
 }
 
 /// Whether the function takes no functions, and has the type with the types of the filling put in. It takes no memory.
@@ -75,7 +58,10 @@ fn is_function(
 {
     match fun.head {
         Head::Def(number) => match at(program.defs.as_slice(), number as usize) {
-            Some(def) => is_definition(program, filling, def, &fun.types, wanted),
+            Some(def) => {
+                takes_types(program, filling.context.tparams, def, &fun.types)
+                    && is_definition(def, &fun.types, wanted, &filling.sigma.types)
+            }
             None => false,
         },
         Head::Wle | Head::Weq => {
@@ -88,21 +74,19 @@ fn is_function(
     }
 }
 
-/// Whether the definition at these types takes no functions, and has the type. It takes no memory.
-fn is_definition(
-    program: &Program,
-    filling: &Filling<'_>,
-    def: &Def,
-    types: &Items<Ty>,
-    wanted: &FnType,
-) -> bool
-    ensures { let by = filling.now.sigma.now.types in IsTrue result ↔ ((length types.now ≡ def.now.tparams) × ((def.now.funs ≡ []) × (AreTypes program.now filling.now.context.now.tparams types.now × ((tys_instance types.now def.now.params ≡ tys_instance by wanted.now.params) × (ty_instance types.now def.now.result ≡ ty_instance by wanted.now.result))))) }
+/// Whether the definition takes no functions, and these types over so many type parameters. It takes no memory.
+fn takes_types(program: &Program, tparams: u32, def: &Def, types: &Items<Ty>) -> bool
+    ensures { IsTrue result ↔ ((length types.now ≡ def.now.tparams) × ((def.now.funs ≡ []) × AreTypes program.now tparams types.now)) }
 {
-    def.tparams as usize == types.len()
-        && def.funs.is_empty()
-        && are_types(types, program, filling.context.tparams)
-        && all_meet(&def.params, types, &wanted.params, &filling.sigma.types)
-        && meets(&def.result, types, &wanted.result, &filling.sigma.types)
+    def.tparams as usize == types.len() && def.funs.is_empty() && are_types(types, program, tparams)
+}
+
+/// Whether the definition's type at the one types is the wanted type with the others put in. It takes no memory.
+fn is_definition(def: &Def, types: &Items<Ty>, wanted: &FnType, others: &Items<Ty>) -> bool
+    ensures { IsTrue result ↔ ((tys_instance types.now def.now.params ≡ tys_instance others.now wanted.now.params) × (ty_instance types.now def.now.result ≡ ty_instance others.now wanted.now.result)) }
+{
+    all_meet(&def.params, types, &wanted.params, others)
+        && meets(&def.result, types, &wanted.result, others)
 }
 
 /// Whether the type with these types put in is that of a comparison of two words. It takes no memory.

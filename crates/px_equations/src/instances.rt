@@ -21,15 +21,20 @@ use std::alloc::Global;
 /// What is put into which clause, and the variables that are in scope there.
 #[derive(Clone, Copy)]
 pub struct Filling<'a> {
+    /// The variables in scope.
     pub context: &'a Context,
+    /// The clause that is filled.
     pub clause: &'a Clause,
+    /// The types, functions and terms that are put in for the clause's variables.
     pub sigma: &'a Sigma,
 }
 
 /// A clause with types, functions and terms put in: the premises that are to be shown, and the alternatives.
 #[derive(Drop)]
 pub struct ClauseInstance {
+    /// The premises that are to be shown, in the clause's order.
     pub premises: EquationList,
+    /// The alternatives, in the clause's order.
     pub alternatives: EquationList,
 }
 

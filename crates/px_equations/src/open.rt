@@ -15,8 +15,17 @@ use std::alloc::Global;
 /// A clause that is open: one of the list, or one that was made.
 #[derive(Drop)]
 pub enum OpenClause<'a> {
+    /// The clause of an obligation, lent by the list.
     Listed(&'a Clause),
+    /// The clause of a property, made for the asking.
     Made(Clause),
+}
+
+/// A property of what is called, as a reference names it.
+#[derive(Clone, Copy)]
+struct PropertyOf {
+    head: Head,
+    prop: Prop,
 }
 
 impl<'a> OpenClause<'a> {
@@ -45,7 +54,7 @@ pub fn available<'t, 'p: 't>(
     ensures only { (own clause : Said) → IsObligation all.now number own → IsOpen all.now number own reference.now clause → IfOk result (IsThatOpen clause) }
 {
     let Some(own) = all.clause(number) else {
-        return Ok(None);
+        unreachable!()
     };
     open_in(alloc, all, number, own, *reference)
 }
@@ -63,27 +72,24 @@ fn open_in<'t, 'p: 't>(
     ensures only { (clause : Said) → IsOpen all.now number own.now reference clause → IfOk result (IsThatOpen clause) }
 {
     match reference {
-        Ref::Property { head, prop } => property_in(alloc, all, number, own, head, prop),
-        Ref::Lemma { lemma } => Ok(lemma_in(all, number, own, lemma)),
+        Ref::Property { head, prop } => {
+            property_in(alloc, all, number, own, PropertyOf { head, prop })
+        }
+        Ref::Lemma { lemma } => Ok(lemma_in(all, number, lemma)),
         Ref::Hypothesis => Ok(Some(OpenClause::Listed(own))),
     }
 }
 
 /// The clause of the lemma, where it stands below the obligation of this number. It takes no memory.
-fn lemma_in<'t, 'p: 't>(
-    all: &'t Obligations<'p>,
-    number: u32,
-    _own: &Clause,
-    lemma: u32,
-) -> Option<OpenClause<'t>>
-    ensures open { TellsFor all.now number _own.now (Ref.Lemma lemma) result }
-    ensures only { (clause : Said) → IsOpen all.now number _own.now (Ref.Lemma lemma) clause → IsThatOpen clause result }
+fn lemma_in<'t, 'p: 't>(all: &'t Obligations<'p>, number: u32, lemma: u32) -> Option<OpenClause<'t>>
+    ensures open { (own : Said) → TellsFor all.now number own (Ref.Lemma lemma) result }
+    ensures only { (own clause : Said) → IsOpen all.now number own (Ref.Lemma lemma) clause → IsThatOpen clause result }
 {
     let first = all.lemma_below(number, lemma)?;
-    match all.clause(first) {
-        Some(clause) => Some(OpenClause::Listed(clause)),
-        None => None,
-    }
+    let Some(clause) = all.clause(first) else {
+        unreachable!()
+    };
+    Some(OpenClause::Listed(clause))
 }
 
 /// The clause of the property, where it is known of the function below the obligation of this number. It takes memory.
@@ -92,13 +98,13 @@ fn property_in<'t, 'p: 't>(
     all: &'t Obligations<'p>,
     number: u32,
     own: &Clause,
-    head: Head,
-    prop: Prop,
+    property: PropertyOf,
 ) -> Result<Option<OpenClause<'t>>, NoMemory>
     requires { IsObligation all.now number own.now }
-    ensures open { IfOk result (TellsFor all.now number own.now (Ref.Property head prop)) }
-    ensures only { (clause : Said) → IsOpen all.now number own.now (Ref.Property head prop) clause → IfOk result (IsThatOpen clause) }
+    ensures open { IfOk result (TellsFor all.now number own.now (Ref.Property property.head property.prop)) }
+    ensures only { (clause : Said) → IsOpen all.now number own.now (Ref.Property property.head property.prop) clause → IfOk result (IsThatOpen clause) }
 {
+    let PropertyOf { head, prop } = property;
     let funs = own.funs.as_slice();
     let program = all.checked().program();
     if !has(known(all, number, funs, head), prop) {
