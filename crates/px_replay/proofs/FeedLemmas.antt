@@ -1,5 +1,5 @@
 -- What a line that is fed, and the end, make of the lines that a replay stands for.
-use Rattle.std.proofs.Common.{◌≡◌, ◌≢◌, ◌-◌, ◌<◌, ◌≤◌, map, reverse, All, ◌+◌, ◌^◌, ℕ, List, [], ◌∷◌, ◌++◌, length, Option, Some, None, Result, Ok, Err, refl, sym, ap, subst, ◌∙◌, arith, length-append}
+use Rattle.std.proofs.Common.{◌≡◌, ◌-◌, ◌<◌, ◌≤◌, reverse, All, ◌+◌, ◌^◌, ℕ, List, [], ◌∷◌, ◌++◌, length, Option, Some, None, Err, refl, sym, ap, subst, ◌∙◌, arith, length-append}
 use Rattle.px_terms.specs.declared.program.Program.{Program}
 use Rattle.px_terms.specs.declared.sequent.Sequent.{Sequent}
 use Rattle.px_terms.specs.declared.row.Row.{Row}
@@ -13,13 +13,13 @@ use Rattle.px_replay.specs.declared.ends.LineRefusal.{LineRefusal}
 use Rattle.px_replay.specs.declared.ends.LineRefusal.TheVariants as refusals
 use Rattle.px_replay.specs.declared.ends.FeedEnd.{FeedEnd}
 use Rattle.px_replay.specs.declared.ends.FeedEnd.TheVariants as ends
-use Rattle.px_replay.specs.States.{State, start, stays, Moves, MovesFrom, Begins, OpensTop, LineMoves, Lead, IsPartial, IsDerivationText, EndIsDerivation, at_end}
-use Rattle.px_replay.specs.Refusals.{IsDue, IsDueFrom, Fails, FailsAfter, IsOutOfOrder, BreaksRule}
+use Rattle.px_replay.specs.States.{State, start, stays, Moves, MovesFrom, LineMoves, Lead, IsPartial, IsDerivationText, EndIsDerivation, at_end}
+use Rattle.px_replay.specs.Refusals.{IsDue, IsDueFrom, Fails, FailsAfter}
 use Rattle.px_replay.specs.Ends.{refusal_at}
 use Rattle.px_replay.specs.Standings.{Standing, StandsFor, Fed}
 use Rattle.px_replay.specs.declared.open_sequents.Open.{Open}
 use Rattle.px_replay.specs.declared.open_sequents.Progress.{Progress}
-use Rattle.px_replay.specs.Keeping.{IsReached, IsKept}
+use Rattle.px_replay.specs.Keeping.{IsKept}
 use Rattle.px_replay.specs.Replaying.{IsRightlyMarked, IsSound, LineRefused, sequents_of, state_of}
 use Rattle.std.proofs.lemmas.List.Elements.{All-nil}
 use Rattle.std.proofs.lemmas.List.{length-reverse, length-map}
@@ -62,10 +62,11 @@ no_partial one_row one_state P checked lines line state w leads fails partial =
 -- a line was refused behind the lines that the replay stands for
 pub fed_refused : OneRow → OneState → (old new : Standing) (lines : List (List ℕ)) (line : List ℕ) (refusal : LineRefusal) → IsChecked old.program → StandsFor old lines → new.program ≡ old.program → LineRefused old.program old.state line refusal →
     Fed lines line new (Err (refusal_at (old.fed + 1) refusal))
-fed_refused one_row one_state old new lines line (refusals.Wrong w) checked stands program refused =
-    (ap (λ (k : ℕ). k + 1) stands.count,
-     subst (λ (P : Program). FailsAfter P lines line w) (sym program) (record { state = old.state; leads = stands.leads; fails = refused }),
-     subst (λ (P : Program). ¬ IsPartial P (lines ++ line ∷ [])) (sym program) (no_partial one_row one_state old.program checked lines line old.state w stands.leads refused))
+fed_refused one_row one_state old new lines line (refusals.Wrong w) checked stands program refused = (
+  ap (λ (k : ℕ). k + 1) stands.count,
+  subst (λ (P : Program). FailsAfter P lines line w) (sym program) (record { state = old.state; leads = stands.leads; fails = refused }),
+  subst (λ (P : Program). ¬ IsPartial P (lines ++ line ∷ [])) (sym program) (no_partial one_row one_state old.program checked lines line old.state w stands.leads refused),
+)
 fed_refused one_row one_state old new lines line refusals.NoMemory checked stands program refused = tt
 
 -- where the state is not the end, the lines are no derivation
@@ -85,6 +86,14 @@ kept_first P progress fed next stack none =
       sound = λ same. record { marked = subst (All IsRightlyMarked) (sym stack) (All-nil IsRightlyMarked); within = (let e : progress.next ≡ 0 = next in omega (arith, e)); begun = λ zero. stack };
       reached = λ same. record { lines = []; leads = subst (λ (s : State). Lead P start [] s) (sym first) stays; count = none };
     }
+
+-- a replay that was fed nothing stands for no lines
+pub stands_first : (P : Program) (stack : List Open) → stack ≡ [] → StandsFor (record { program = P; state = state_of (record { next = 0; stack = stack }); fed = 0; refusal = None }) []
+stands_first P stack none = record {
+  leads = subst (λ (os : List Open). Lead P start [] (state_of (record { next = 0; stack = os }))) (sym none) stays;
+  count = refl;
+  none = refl;
+}
 
 -- what it keeps after a line
 pub kept_longer : (P : Program) (old new : Progress) (fed longer : ℕ) (line : List ℕ) → IsKept P old fed None → fed < 2 ^ 63 → longer ≡ fed + 1 → LineMoves P (state_of old) line (state_of new) → IsSound P new → IsKept P new longer None
@@ -118,3 +127,27 @@ none_open stack none = let lengths : length stack ≡ 0 = sym (length-map-revers
     by_length : (os : List Open) → length os ≡ 0 → os ≡ []
     by_length [] e = refl
     by_length (o ∷ os) e = absurd (omega (arith, e))
+
+-- what a replay is for who looks from outside
+abbrev pub seen : Program → Progress → ℕ → Option FeedEnd → Standing
+seen P progress fed refusal = record { program = P; state = state_of progress; fed = fed; refusal = refusal }
+
+-- after a line that moves on, the replay stands for one line more
+pub line_fed : (P : Program) (old new : Progress) (fed : ℕ) (refusal : Option FeedEnd) (line : List ℕ) (before : Standing) → seen P old fed refusal ≡ before → refusal ≡ None → LineMoves P (state_of old) line (state_of new) →
+    (lines : List (List ℕ)) → StandsFor before lines → StandsFor (seen P new (fed + 1) refusal) (lines ++ line ∷ [])
+line_fed P old new fed refusal line before is none moves lines stands =
+    stands_longer (seen P old fed refusal) (seen P new (fed + 1) refusal) lines line (subst (λ (r : Standing). StandsFor r lines) (sym is) stands) refl moves refl none
+
+-- what it keeps then
+pub kept_fed : (P : Program) (old new : Progress) (fed : ℕ) (refusal : Option FeedEnd) (line : List ℕ) (before : Standing) → seen P old fed refusal ≡ before → refusal ≡ None → IsKept P old fed refusal → before.fed < 2 ^ 63 →
+    LineMoves P (state_of old) line (state_of new) → IsSound P new → IsKept P new (fed + 1) refusal
+kept_fed P old new fed refusal line before is none kept few moves sound =
+    subst (IsKept P new (fed + 1)) (sym none)
+    (kept_longer P old new fed (fed + 1) line (subst (IsKept P old fed) none kept) (subst (λ (r : Standing). r.fed < 2 ^ 63) (sym is) few) refl moves sound)
+
+-- after a line that was refused, the refusal says so
+pub line_refused : OneRow → OneState → (P : Program) → IsChecked P → (old : Progress) (fed : ℕ) (refusal : Option FeedEnd) (line : List ℕ) (before new : Standing) (found : LineRefusal) (end : FeedEnd) → seen P old fed refusal ≡ before → new.program ≡ P →
+    LineRefused P (state_of old) line found → end ≡ refusal_at (fed + 1) found → (lines : List (List ℕ)) → StandsFor before lines → Fed lines line new (Err end)
+line_refused one_row one_state P checked old fed refusal line before new found end is same refused said lines stands =
+    subst (λ (e : FeedEnd). Fed lines line new (Err e)) (sym said)
+    (fed_refused one_row one_state (seen P old fed refusal) new lines line found checked (subst (λ (r : Standing). StandsFor r lines) (sym is) stands) same refused)

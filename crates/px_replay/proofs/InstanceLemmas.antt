@@ -11,7 +11,6 @@ use Rattle.px_terms.specs.Sequents.{IsWithinLimits}
 use Rattle.px_terms.specs.Rows.{noted, to_show, with_facts}
 
 module _ {X Y Z : Type 0} (g : Y → Z) (h : X → Y) where
-
   -- one more child
   pub made_more : (xs : List X) (i : ℕ) (x : X) (first old new : List Z) (z : Z) → i < length xs → x ≡ get_or xs i x → old ≡ first ++ map g (map h (take i xs)) → z ≡ g (h x) → new ≡ old ++ z ∷ [] → new ≡ first ++ map g (map h (take (i + 1) xs))
   made_more xs i x first old new z within is so_far z_is pushed =
@@ -47,7 +46,6 @@ split_last {X} xs x some is =
     sym (take_all ((length xs - 1) + 1) xs all) ∙ (take_more xs (length xs - 1) x within ∙ ap (λ (y : X). take (length xs - 1) xs ++ y ∷ []) (sym is))
 
 module _ (s : Sequent) (clause : Clause) (sigma : Sigma) where
-
   abbrev shows : List Equation → List Sequent
   shows es = map (to_show s) (equations_instance sigma es)
 

@@ -47,7 +47,6 @@ pub partial_front : (P : Program) (lines more : List (List ℕ)) → IsPartial P
 partial_front P lines more partial = let front = lead_front P _ partial.state lines more partial.leads in record { state = front.0; leads = front.1 }
 
 module _ (one_row : OneRow) (one_opening : OneOpening) (one_clause : OneClause) where
-
   one_begin : (P : Program) (n : ℕ) (r : Row) (a b : State) → Begins P n r a → Begins P n r b → a ≡ b
   one_begin P n r a b x y =
       let clauses : x.own ≡ y.own = one_clause P n x.own y.own x.obligation y.obligation in

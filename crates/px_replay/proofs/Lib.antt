@@ -13,3 +13,4 @@ pub mod HeaderLemmas
 pub mod LineLemmas
 pub mod FeedLemmas
 pub mod RowLemmas
+pub mod AcceptLemmas

@@ -1,6 +1,6 @@
 -- What a header and a row do to the state, and why a line does not go on.
-use Rattle.std.proofs.Common.{◌≡◌, ◌≢◌, ◌<◌, ◌≤◌, ◌+◌, ◌-◌, ℕ, zero, suc, List, [], ◌∷◌, ◌++◌, length, map, reverse, slice_get, Some, All, Result, Ok, Err, IfErr, IsErr, IsErrAnd, IsOkUnless, OnOk, refl, sym, ap, subst, ◌∙◌, arith}
-use Rattle.std.proofs.lemmas.List.Elements.{All-nil, All-cons, All-head, All-tail, All-push, All-append}
+use Rattle.std.proofs.Common.{◌≡◌, ◌≢◌, ◌<◌, ◌≤◌, ◌+◌, ◌-◌, ℕ, zero, suc, List, [], ◌∷◌, ◌++◌, length, map, reverse, All, Result, Ok, Err, IfErr, IsErr, IsErrAnd, OnOk, refl, sym, ap, subst, ◌∙◌, arith}
+use Rattle.std.proofs.lemmas.List.Elements.{All-nil, All-cons, All-head, All-tail, All-push}
 use Rattle.std.proofs.lemmas.Option.{slice_get_within}
 use Rattle.px_terms.specs.declared.clause.Clause.{Clause}
 use Rattle.px_terms.specs.declared.program.Program.{Program}
@@ -22,10 +22,10 @@ use Rattle.px_replay.specs.declared.ends.LineRefusal.{LineRefusal}
 use Rattle.px_replay.specs.declared.ends.LineRefusal.TheVariants as refusals
 use Rattle.px_replay.specs.declared.open_sequents.Open.{Open}
 use Rattle.px_replay.specs.declared.open_sequents.Progress.{Progress}
-use Rattle.px_replay.specs.States.{State, Begins, OpensTop, MovesFrom, Moves, LineMoves}
-use Rattle.px_replay.specs.Refusals.{IsNextHeader, IsDue, IsDueFrom, Fails}
+use Rattle.px_replay.specs.States.{State, Begins, MovesFrom, Moves, LineMoves}
+use Rattle.px_replay.specs.Refusals.{IsNextHeader, IsDue, IsDueFrom}
 use Rattle.px_replay.specs.Ends.{line_refusal, row_refusal}
-use Rattle.px_replay.specs.Replaying.{IsRightlyMarked, child_within, sequents_of, state_of, IsSound, Leaves, RowRefused, LineRefused}
+use Rattle.px_replay.specs.Replaying.{IsRightlyMarked, child_within, sequents_of, state_of, IsSound, RowRefused, LineRefused}
 use Rattle.px_replay.proofs.StackLemmas.{top_sequent, pushed_sequents, pushed_marked}
 
 -- the obligation is one of those declared
@@ -63,13 +63,14 @@ no_header P old r none not due = not (subst (λ (os : List Open). IsDueFrom P ol
 pub header_breaks : (P : Program) (old : Progress) (r : Row) (on : List ℕ) (clause : Clause) → old.stack ≡ [] → r ≡ row.Header old.next on → old.next < length P.declared → ((own : Clause) → IsObligation P old.next own → own ≡ clause) →
     (AreFrameVariables clause on → ⊥) → RowRefused P (state_of old) r (refusals.Wrong why.Rule)
 header_breaks P old r on clause none header below only not =
-    let due : IsDueFrom P old.next [] r = record { there = below; on = on; header = header } in
-    (subst (λ (os : List Open). IsDueFrom P old.next (sequents_of os) r) (sym none) due,
-     λ new moves.
-        let begins : Begins P old.next r new = subst (λ (os : List Open). MovesFrom P old.next (sequents_of os) r new) none moves in
-        let headers : row.Header old.next begins.on ≡ row.Header old.next on = sym begins.header ∙ header in
-        let lists : begins.on ≡ on = cc in
-        not (subst (λ (c : Clause). AreFrameVariables c on) (only begins.own begins.obligation) (subst (AreFrameVariables begins.own) lists begins.variables)))
+    let due : IsDueFrom P old.next [] r = record { there = below; on = on; header = header } in (
+      subst (λ (os : List Open). IsDueFrom P old.next (sequents_of os) r) (sym none) due,
+      λ new moves.
+          let begins : Begins P old.next r new = subst (λ (os : List Open). MovesFrom P old.next (sequents_of os) r new) none moves in
+          let headers : row.Header old.next begins.on ≡ row.Header old.next on = sym begins.header ∙ header in
+          let lists : begins.on ≡ on = cc in
+          not (subst (λ (c : Clause). AreFrameVariables c on) (only begins.own begins.obligation) (subst (AreFrameVariables begins.own) lists begins.variables)),
+    )
 
 -- memory that is wanting refuses nothing
 pub wants_memory : {X : Type 0} (P : Program) (s : State) (r : Row) (result : Result X LineRefusal) → IsErr result × IsErrAnd result (λ end. end ≡ refusals.NoMemory) → IfErr result (RowRefused P s r)

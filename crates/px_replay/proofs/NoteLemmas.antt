@@ -1,5 +1,5 @@
 -- Lemmas on notes: what the hypothesis puts in, and what is left where a note applies.
-use Rattle.std.proofs.Common.{◌≡◌, ◌↔◌, ◌<◌, ◌≤◌, ◌^◌, ℕ, ◌+◌, List, [], ◌∷◌, ◌++◌, map, length, Option, Some, None, Result, Ok, Err, IfOk, IsOkUnless, IsTrue, Bool, false, All, refl, sym, ap, subst, ◌∙◌, zero-add, arith}
+use Rattle.std.proofs.Common.{◌≡◌, ◌↔◌, ◌<◌, ◌≤◌, ◌^◌, ℕ, ◌+◌, List, [], ◌∷◌, ◌++◌, length, Option, Some, None, Result, Ok, Err, IfOk, IsOkUnless, IsTrue, Bool, false, All, refl, sym, ap, subst, ◌∙◌, zero-add, arith}
 use Rattle.std.proofs.lemmas.Bool.{false≢true}
 use Rattle.px_terms.specs.declared.types.Ty.{Ty}
 use Rattle.px_terms.specs.declared.types.Ty.TheVariants as type
@@ -58,9 +58,7 @@ abbrev pub AreNoted : Sequent → Clause → Sigma → List Sequent → Type 0
 AreNoted s clause sigma children = (children ≡ noted s clause sigma) × All IsWithinLimits children
 
 module _ (P : Program) (n : ℕ) (s : Sequent) where
-
   module _ (about : Ref) (sigma : Sigma) (other : about ≡ reference.Hypothesis → ⊥) where
-
     -- nothing is open
     pub note_none : (o : Option OpenClause) (children : List Sequent) → ((found : OpenClause) → o ≡ Some found → ⊥) → TellsOpen P n about o →
         Opens P n s (row.Note about sigma) children → ⊥
@@ -70,7 +68,6 @@ module _ (P : Program) (n : ℕ) (s : Sequent) where
     note_none (Some found) children not_some tells opens = not_some found refl
 
     module _ (o : Option OpenClause) (found : OpenClause) (clause : Clause) (some : o ≡ Some found) (is : clause ≡ clause_in found) where
-
       -- the children of a note
       note_leaves : (own : Clause) (children : List Sequent) → IsObligation P n own → TellsOpen P n about o → SigmaMayStand sigma →
           FitsClause P n s.context clause sigma → AreNoted s clause sigma children → Leaves P n s (row.Note about sigma) children
@@ -88,8 +85,7 @@ module _ (P : Program) (n : ℕ) (s : Sequent) where
       note_answers own (Err end) obligation tells stands fits made = tt
 
       module _ (children : List Sequent) (only : (own that : Clause) → IsObligation P n own → IsOpen P n own about that → IsThatOpen that o)
-        (opens : Opens P n s (row.Note about sigma) children) where
-
+          (opens : Opens P n s (row.Note about sigma) children) where
         same_clause : (to : Notes P n s about sigma) → to.clause ≡ clause
         same_clause to =
             let one : IsThatOpen to.clause (Some found) = subst (IsThatOpen to.clause) some (only to.own to.clause to.obligation to.is_open) in
@@ -108,7 +104,6 @@ module _ (P : Program) (n : ℕ) (s : Sequent) where
             subst (λ (c : Clause). All IsWithinLimits (noted s c sigma)) (same_clause to) to.small
 
   module _ (sigma whole : Sigma) (own : Clause) (is : whole ≡ own_sigma own sigma.terms) where
-
     hypothesis_leaves : (children : List Sequent) → sigma.types ≡ [] → sigma.funs ≡ [] → IsObligation P n own → SigmaMayStand sigma →
         FitsClause P n s.context own whole → Guard s.frame sigma.terms → AreNoted s own whole children →
         Leaves P n s (row.Note reference.Hypothesis sigma) children
@@ -126,8 +121,7 @@ module _ (P : Program) (n : ℕ) (s : Sequent) where
     hypothesis_answers (Err end) types funs obligation stands fits guard made = tt
 
     module _ (children : List Sequent) (only : (that : Clause) → IsObligation P n that → that ≡ own)
-      (opens : Opens P n s (row.Note reference.Hypothesis sigma) children) where
-
+        (opens : Opens P n s (row.Note reference.Hypothesis sigma) children) where
       -- the obligation's own clause fits
       pub hypothesis_fits : FitsClause P n s.context own whole
       hypothesis_fits =

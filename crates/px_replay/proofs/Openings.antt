@@ -1,10 +1,6 @@
 -- What a row that opens a sequent needs, by the row.
-use Rattle.std.proofs.Common.{◌≡◌, ℕ, List, [], ◌∷◌, slice_get, Some, All, refl, sym, subst, ◌∙◌}
-use Rattle.px_terms.specs.declared.types.Ty.{Ty, out-Ty}
-use Rattle.px_terms.specs.declared.types.Ty.TheOpen.{Ty-F}
-use Rattle.px_terms.specs.declared.types.Fun.{Fun}
-use Rattle.px_terms.specs.declared.term.Term.{Term, out-Term}
-use Rattle.px_terms.specs.declared.term.Term.TheOpen.{Term-F}
+use Rattle.std.proofs.Common.{◌≡◌, ℕ, List, slice_get, Some, All, refl, subst}
+use Rattle.px_terms.specs.declared.term.Term.{Term}
 use Rattle.px_terms.specs.declared.clause.Clause.{Clause}
 use Rattle.px_terms.specs.declared.clause.Equation.{Equation}
 use Rattle.px_terms.specs.declared.clause.Sigma.{Sigma}
@@ -14,16 +10,15 @@ use Rattle.px_terms.specs.declared.row.Side.{Side}
 use Rattle.px_terms.specs.declared.row.Kind.{Kind}
 use Rattle.px_terms.specs.declared.row.Ref.{Ref}
 use Rattle.px_terms.specs.declared.row.Ref.TheVariants as reference
-use Rattle.px_terms.specs.declared.row.Target.{Target}
 use Rattle.px_terms.specs.declared.row.Target.TheVariants as target
 use Rattle.px_terms.specs.declared.row.Row.{Row}
 use Rattle.px_terms.specs.declared.row.Row.TheVariants as row
 use Rattle.px_terms.specs.Obligations.{IsObligation}
-use Rattle.px_terms.specs.Sequents.{side_of, IsWithinLimits, with_alternative_side, with_fact_side}
+use Rattle.px_terms.specs.Sequents.{IsWithinLimits, with_alternative_side, with_fact_side}
 use Rattle.px_terms.specs.Steps.{Step}
 use Rattle.px_terms.specs.Guards.{Guard}
 use Rattle.px_terms.specs.Noting.{IsOpen, FitsClause, own_sigma}
-use Rattle.px_terms.specs.Rows.{Opens, same, step, step_in_fact, note, hypothesis, case, split, clash, inject, SigmaMayStand, MayStand, AreCases, AreTermCases, HeadsClash, IsInjected, noted}
+use Rattle.px_terms.specs.Rows.{Opens, same, step, step_in_fact, note, hypothesis, case, split, clash, inject, AreCases, AreTermCases, HeadsClash, IsInjected, noted}
 use Rattle.px_replay.specs.Replaying.{SidesAreOne, StepsSide}
 
 -- A step of a side of an alternative, onto a sequent within the limits.

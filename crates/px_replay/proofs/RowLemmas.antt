@@ -21,9 +21,10 @@ use Rattle.px_replay.proofs.Standing.{term_may_stand, note_may_stand, own_types_
 
 -- whether the sides of the alternative that was found are one
 pub sides_found : (s : Sequent) (at : ℕ) (e : Equation) (T : Type 0) → slice_get s.alternatives at ≡ Some e → (T ↔ (e.left ≡ e.right)) → T ↔ SidesAreOne s at
-sides_found s at e T found told =
-    ((λ t. record { equation = e; found = found; one = told.0 t }),
-     (λ sides. told.1 (subst (λ (x : Equation). x.left ≡ x.right) (found_one s.alternatives at sides.equation e sides.found found) sides.one)))
+sides_found s at e T found told = (
+  (λ t. record { equation = e; found = found; one = told.0 t }),
+  (λ sides. told.1 (subst (λ (x : Equation). x.left ≡ x.right) (found_one s.alternatives at sides.equation e sides.found found) sides.one)),
+)
 
 -- where there is no alternative its sides are not one
 pub no_sides : (s : Sequent) (at : ℕ) → slice_get s.alternatives at ≡ None → SidesAreOne s at → ⊥

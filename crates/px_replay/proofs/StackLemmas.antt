@@ -1,5 +1,5 @@
 -- The stack of open sequents, read from its top.
-use Rattle.std.proofs.Common.{◌≡◌, ℕ, List, [], ◌∷◌, ◌++◌, map, reverse, All, refl, sym, ap, subst, ◌∙◌, append_assoc, append-nil}
+use Rattle.std.proofs.Common.{◌≡◌, List, [], ◌∷◌, ◌++◌, map, reverse, All, refl, sym, ap, subst, ◌∙◌, append_assoc}
 use Rattle.std.proofs.lemmas.List.{reverse-append, map-append}
 use Rattle.std.proofs.lemmas.List.Elements.{All-nil, All-cons, All-head, All-tail, All-push, All-append}
 use Rattle.px_terms.specs.declared.sequent.Sequent.{Sequent}
@@ -50,4 +50,3 @@ pub moved_on : (children popped : List Sequent) (child : Sequent) (stack now all
 moved_on children popped child stack now all o split pushed o_is so_far =
     let turned : reverse children ≡ child ∷ reverse popped = ap (λ (ss : List Sequent). reverse ss) split ∙ reverse-append popped (child ∷ []) in
     ap (λ (os : List Open). os ++ map child_within (reverse popped)) (pushed ∙ ap (λ (x : Open). stack ++ x ∷ []) o_is) ∙ (append_assoc stack (child_within child ∷ []) (map child_within (reverse popped)) ∙ (ap (λ (ss : List Sequent). stack ++ map child_within ss) (sym turned) ∙ so_far))
-

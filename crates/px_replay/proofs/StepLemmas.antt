@@ -1,5 +1,5 @@
 -- What a step makes of a sequent.
-use Rattle.std.proofs.Common.{◌≡◌, ◌≤◌, ◌<◌, ℕ, length, List, [], ◌∷◌, slice_get, slice_set, get_or, Option, Some, IfSome, Bool, IsTrue, ◌⊎◌, inl, inr, sym, ap, subst, ◌∙◌, All}
+use Rattle.std.proofs.Common.{◌≡◌, ◌≤◌, ◌<◌, ℕ, length, List, [], ◌∷◌, slice_get, slice_set, Option, Some, IfSome, Bool, IsTrue, ◌⊎◌, inl, inr, sym, ap, subst, ◌∙◌, All}
 use Rattle.std.proofs.lemmas.List.{length-set}
 use Rattle.std.proofs.lemmas.List.Elements.{All-set, All-get_or}
 use Rattle.px_base.specs.declared.limits.TheConstants.{FACTS}
@@ -41,7 +41,6 @@ all_small P facts equations at side path kind t steps small =
     All-set IsSmallEquation equations at (with_side side steps.equation t) (small_with_side side steps.equation t (all_at IsSmallEquation equations at steps.equation steps.found small) steps.step.small) small
 
 module _ (P : Program) (s : Sequent) (at : ℕ) (side : Side) (path : List ℕ) (kind : Kind) (t : Term) (new : List Equation) where
-
   -- the child of a step in an alternative
   pub alternative_child : (steps : StepsSide P s.facts s.alternatives at side path kind t) → IfSome (slice_get s.alternatives at) (λ e. new ≡ slice_set s.alternatives at (with_side side e t)) → record s { alternatives = new } ≡ with_alternative_side s at steps.equation side t
   alternative_child steps is = ap (λ (es : List Equation). record s { alternatives = es }) (written P s.facts s.alternatives at side path kind t steps new is)

@@ -9,11 +9,11 @@ use Rattle.px_terms.specs.declared.row.Row.TheVariants as row
 use Rattle.px_terms.specs.declared.row.Tree.{Tree}
 use Rattle.px_terms.specs.Rows.{Opens}
 use Rattle.px_terms.specs.Derivations as derivations
-use Rattle.px_terms.specs.Derivations.{DerivesObligation, begins_with, IsDerivation}
+use Rattle.px_terms.specs.Derivations.{DerivesObligation, begins_with}
 use Rattle.px_derive.specs.Spelling.{line_of}
 use Rattle.px_derive.specs.Spellable.{IsSpellable}
 use Rattle.px_soundness.specs.Laws.{EachStackIsTree}
-use Rattle.px_replay.specs.States.{State, start, Begins, OpensTop, MovesFrom, LineMoves, Lead, stays, goes_on, at_end, rows_from, IsDerivationText, EndIsDerivation}
+use Rattle.px_replay.specs.States.{State, start, Begins, OpensTop, MovesFrom, Lead, stays, goes_on, at_end, rows_from, IsDerivationText, EndIsDerivation}
 use Rattle.px_replay.proofs.Leading.{lead_append}
 
 -- The lines are those of trees of the obligations from this number on, to the last.
@@ -67,7 +67,6 @@ each_cons P n tree trees first each zero t found = let e : Some tree ≡ Some t 
 each_cons P n tree trees first each (suc i) t found = let e : (n + 1) + i ≡ n + suc i = omega arith in subst (λ (k : ℕ). DerivesObligation P k t) e (each i t found)
 
 module _ (stack_is_tree : EachStackIsTree) where
-
   -- a header before what closes the first sequent
   with_header : (P : Program) (n : ℕ) (r : Row) (now : State) (lines : List (List ℕ)) → IsSpellable P.names r → Begins P n r now → Closes P now.next now.stack lines → Rest P n (line_of P.names r ∷ lines)
   with_header P n r now lines spellable begins closes =

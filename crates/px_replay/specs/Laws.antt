@@ -2,7 +2,7 @@
 use Rattle.std.specs.Prelude.{◌≡◌, ℕ, List, ◌++◌}
 use Rattle.px_terms.specs.declared.program.Program.{Program}
 use Rattle.px_descent.specs.Checked.{IsChecked}
-use Rattle.px_replay.specs.States.{State, start, Lead, IsPartial, EndIsDerivation}
+use Rattle.px_replay.specs.States.{State, Lead, IsPartial, EndIsDerivation}
 
 -- of a checked program, lines lead to at most one state
 abbrev pub OneState : Type 0

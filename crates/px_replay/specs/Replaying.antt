@@ -1,5 +1,5 @@
 -- How a replay keeps its state: the stack of open sequents, each with a mark, and what a line does to it.
-use Rattle.std.specs.Prelude.{◌≡◌, ◌≢◌, ℕ, ◌≤◌, List, [], ◌∷◌, ◌++◌, length, map, reverse, slice_get, Some, All, IsTrue, true}
+use Rattle.std.specs.Prelude.{◌≡◌, ℕ, ◌≤◌, List, [], length, map, reverse, slice_get, Some, All, IsTrue, true}
 use Rattle.px_terms.specs.declared.term.Term.{Term}
 use Rattle.px_terms.specs.declared.clause.Equation.{Equation}
 use Rattle.px_terms.specs.declared.program.Program.{Program}

@@ -3,9 +3,7 @@ ghost use Rattle.std.specs.Prelude.{◌≡◌, IfOk};
 
 use crate::open_sequents::Open;
 use px_induct::copy_frame;
-use px_terms::{
-    Context, NoMemory, Sequent, Ty, copy_equations, copy_fn_types, copy_ty,
-};
+use px_terms::{Context, NoMemory, Sequent, Ty, copy_equations, copy_fn_types, copy_ty};
 use sqlite_items::Items;
 use std::alloc::Global;
 

@@ -2,7 +2,6 @@
 ghost use Rattle.std.specs.Prelude.{◌≡◌};
 ghost use Rattle.px_rewrite.specs.declared.steps.StepEnd.TheVariants as step_ends;
 ghost use Rattle.px_cases.specs.declared.ends.SplitEnd.TheVariants as split_ends;
-ghost use Rattle.px_derive.specs.declared.line_end.LineEnd.TheVariants as line_ends;
 ghost use Rattle.px_replay.specs.declared.ends.RowEnd.TheVariants as row_ends;
 ghost use Rattle.px_replay.specs.declared.ends.LineRefusal.TheVariants as refusals;
 ghost use Rattle.px_replay.specs.Ends.{line_refusal, row_refusal};
@@ -32,10 +31,7 @@ pub enum Why {
 #[derive(Clone, Copy, Debug, PartialEq, Eq)]
 pub enum FeedEnd {
     /// This line, counted from 1, is wrong.
-    Rejected {
-        line: u64,
-        why: Why,
-    },
+    Rejected { line: u64, why: Why },
     /// No memory was left.
     NoMemory,
 }
@@ -50,9 +46,7 @@ pub struct Accepted {
 #[derive(Clone, Copy, Debug, PartialEq, Eq)]
 pub(crate) enum LineRefusal {
     /// It is wrong.
-    Wrong {
-        why: Why,
-    },
+    Wrong { why: Why },
     /// No memory was left.
     NoMemory,
 }

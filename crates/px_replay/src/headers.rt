@@ -1,7 +1,7 @@
 //! Headers: what is open at first in an obligation.
-ghost use Rattle.std.specs.Prelude.{◌≡◌, ◌<◌, ◌↔◌, ◌^◌, All, IfOk, IsTrue, ℕ, length};
+ghost use Rattle.std.specs.Prelude.{◌≡◌, ◌<◌, ◌↔◌, ◌^◌, All, IfOk, IsTrue, length};
 ghost use Rattle.px_terms.specs.Typing.{live};
-ghost use Rattle.px_terms.specs.Derivations.{AreFrameVariables, Rise, begins_with};
+ghost use Rattle.px_terms.specs.Derivations.{AreFrameVariables, begins_with};
 
 use px_induct::new_frame;
 use px_terms::{Clause, Context, NoMemory, Sequent, Ty, copy_equations, copy_fn_types, copy_ty};

@@ -68,7 +68,12 @@ fn shown(alloc: Global, top: &Open, premise: &Equation, sigma: &Sigma) -> Result
 }
 
 /// The sequent with the instance of an equation as a new last fact: an alternative of the clause that is true.
-fn assumed(alloc: Global, top: Open, alternative: &Equation, sigma: &Sigma) -> Result<Sequent, RowEnd>
+fn assumed(
+    alloc: Global,
+    top: Open,
+    alternative: &Equation,
+    sigma: &Sigma,
+) -> Result<Sequent, RowEnd>
     requires { IsRightlyMarked top }
     ensures made { IfOk result (λ child. (child ≡ with_facts top.sequent (equation_instance sigma.now alternative.now ∷ [])) × IsWithinLimits child) }
     ensures only { IsWithinLimits (with_facts top.sequent (equation_instance sigma.now alternative.now ∷ [])) → IsOkUnless result RowEnd.NoMemory }
@@ -138,7 +143,13 @@ pub(crate) fn noted_children(
     ensures only { All IsWithinLimits (noted top.sequent clause.now sigma.now) → IsOkUnless result RowEnd.NoMemory }
 {
     let mut children = Items::new(alloc);
-    push_shown(alloc, &top, clause.premises.as_slice(), sigma, &mut children)?;
+    push_shown(
+        alloc,
+        &top,
+        clause.premises.as_slice(),
+        sigma,
+        &mut children,
+    )?;
     let [others @ .., last] = clause.alternatives.as_slice() else {
         return Ok(children);
     };

@@ -1,5 +1,5 @@
 //! Notes: what an instance of an open clause leaves of a sequent.
-ghost use Rattle.std.specs.Prelude.{◌≡◌, ◌≢◌, ◌<◌, ◌↔◌, ◌^◌, [], IfOk, IsOkUnless, IsTrue, List, length, map, ℕ};
+ghost use Rattle.std.specs.Prelude.{◌≡◌, ◌≢◌, ◌<◌, ◌↔◌, ◌^◌, [], IfOk, IsOkUnless, IsTrue, List, length};
 ghost use Rattle.px_terms.specs.declared.sequent.Sequent.{Sequent as AnySequent};
 ghost use Rattle.px_terms.specs.declared.row.Row.TheVariants as rows;
 ghost use Rattle.px_terms.specs.declared.row.Ref.TheVariants as references;
@@ -150,7 +150,9 @@ pub(crate) fn note_children(
     ensures only { (children : List AnySequent) → Opens all.now number top.sequent (rows.Note reference sigma) children → IsOkUnless result RowEnd.NoMemory }
 {
     match reference {
-        Ref::Property { .. } | Ref::Lemma { .. } => note(alloc, all, number, top, reference, &sigma),
+        Ref::Property { .. } | Ref::Lemma { .. } => note(
+            alloc, all, number, top, reference, &sigma,
+        ),
         Ref::Hypothesis => hypothesis(alloc, all, number, top, sigma),
     }
 }

@@ -52,7 +52,10 @@ pub(crate) fn is_child_within(was_within: bool, child: &Sequent) -> bool
 }
 
 /// Moves the sequents onto the stack, the first on top.
-pub(crate) fn push_reversed(stack: &mut Items<Open>, mut children: Items<Sequent>) -> Result<(), NoMemory>
+pub(crate) fn push_reversed(
+    stack: &mut Items<Open>,
+    mut children: Items<Sequent>,
+) -> Result<(), NoMemory>
     requires { All IsWithinLimits children }
     ensures { OnOk result (stack.new ≡ stack.old ++ map child_within (reverse children)) }
 {

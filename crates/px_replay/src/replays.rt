@@ -1,5 +1,5 @@
 //! The replay of a derivation, fed line by line.
-ghost use Rattle.std.specs.Prelude.{◌≡◌, ◌<◌, ◌^◌, ℕ, List, [], IfOk, Some, Err};
+ghost use Rattle.std.specs.Prelude.{◌≡◌, ◌<◌, ◌^◌, ◌↔◌, ℕ, List, [], length, IfOk, IsTrue, Some, Err};
 ghost use Rattle.px_terms.specs.Obligations.{AllHoldInExtensions};
 ghost use Rattle.px_replay.specs.Ends.{refusal_at};
 ghost use Rattle.px_replay.specs.Standings.{Fed, Finished, StandsFor, StaysRefused};
@@ -102,15 +102,22 @@ impl<'a> Replay<'a> {
             return Err(end);
         }
         let _checked = self.all.checked();
-        let obligations = self.all.count();
-        if self.progress.next != obligations || !self.progress.stack.is_empty() {
+        if !is_ended(self.all, &self.progress) {
             return Err(FeedEnd::Rejected {
                 line: self.fed + 1,
                 why: Why::End,
             });
         }
+        let obligations = self.all.count();
         Ok(Accepted { obligations })
     }
+}
+
+/// Whether every obligation was begun, and nothing is open.
+fn is_ended(all: &Obligations, progress: &Progress) -> bool
+    ensures { IsTrue result ↔ ((progress.now.next ≡ length all.now.declared) × (progress.now.stack ≡ [])) }
+{
+    progress.next == all.count() && progress.stack.is_empty()
 }
 
 /// The refusal of the line of this number.

@@ -1,4 +1,4 @@
-use Rattle.std.proofs.Common.{◌≡◌, ◌≤◌, ◌<◌, arith}
+use Rattle.std.proofs.Common.{◌≤◌, ◌<◌, arith}
 use Rattle.px_replay.proofs.HeaderLemmas.{place_on, place_back}
 use Rattle.px_replay.proofs.headers.are_frame_variables.Goals as goal
 

@@ -1,4 +1,4 @@
-use Rattle.std.proofs.Common.{◌≡◌, ◌∷◌, [], ◌∙◌, ap, sym, subst}
+use Rattle.std.proofs.Common.{◌∷◌, [], ◌∙◌, ap, sym, subst}
 use Rattle.px_terms.specs.declared.clause.Equation.{Equation}
 use Rattle.px_terms.specs.Noting.{equation_instance}
 use Rattle.px_terms.specs.Sequents.{IsWithinLimits}

@@ -1,4 +1,4 @@
-use Rattle.std.proofs.Common.{◌∙◌, ap}
+use Rattle.std.proofs.Common.{◌∙◌}
 use Rattle.px_terms.specs.Noting.{equation_instance}
 use Rattle.px_terms.specs.Sequents.{IsWithinLimits}
 use Rattle.px_terms.specs.Rows.{to_show}

@@ -9,7 +9,7 @@ returns c = record {
     is = row_state c.args.progress.now.next c.args.progress.now.stack c.push_reversed.new.stack c.in_ok-children.children c.in_ok-push_reversed.ensures;
   };
   sound = row_sound c.args.all.now c.args.progress.now.next c.args.progress.now.stack c.push_reversed.new.stack c.args.top c.in_ok-children.children c.requires.sound
-    (rest_marked c.args.all.now c.args.progress.now.next c.args.progress.now.stack c.args.top c.requires.sound)
-    (some_begun c.args.all.now c.args.progress.now.next c.args.progress.now.stack c.args.top c.requires.sound) c.in_ok-children.ensures.leaves.small c.in_ok-push_reversed.ensures;
+      (rest_marked c.args.all.now c.args.progress.now.next c.args.progress.now.stack c.args.top c.requires.sound)
+      (some_begun c.args.all.now c.args.progress.now.next c.args.progress.now.stack c.args.top c.requires.sound) c.in_ok-children.ensures.leaves.small c.in_ok-push_reversed.ensures;
   refuses = tt;
 }

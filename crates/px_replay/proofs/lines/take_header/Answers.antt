@@ -1,4 +1,4 @@
-use Rattle.std.proofs.Common.{◌≡◌, ◌∙◌, ◌+◌, ◌<◌, ◌^◌, ℕ, List, ap, sym, subst, refl, length, arith, true, false}
+use Rattle.std.proofs.Common.{◌≡◌, ◌∙◌, ◌+◌, ◌<◌, ◌^◌, ℕ, ap, sym, subst, refl, length, arith, true, false}
 use Rattle.px_terms.specs.declared.row.Row.TheVariants as row
 use Rattle.px_terms.specs.Derivations.{AreFrameVariables}
 use Rattle.px_replay.proofs.LineLemmas.{obligation_within, header_breaks, header_sound}

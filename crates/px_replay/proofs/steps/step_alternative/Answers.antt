@@ -1,7 +1,6 @@
 use Rattle.std.proofs.Common.{◌≡◌, true, false, inr, sym, ◌∙◌}
 use Rattle.px_terms.specs.declared.row.Row.TheVariants as row
 use Rattle.px_terms.specs.declared.row.Target.TheVariants as target
-use Rattle.px_terms.specs.Sequents.{IsWithinLimits}
 use Rattle.px_replay.specs.Replaying.{StepsSide}
 use Rattle.px_replay.proofs.Openings.{StepsAlternative, needs}
 use Rattle.px_replay.proofs.Results.{still_ends}

@@ -1,4 +1,4 @@
-use Rattle.std.proofs.Common.{sym, ◌∙◌}
+use Rattle.std.proofs.Common.{sym}
 use Rattle.px_replay.proofs.Results.{passed_on}
 use Rattle.px_replay.proofs.StepLemmas.{step_found, step_due}
 use Rattle.px_replay.proofs.steps.step_side.Goals as goal
