@@ -3,7 +3,7 @@ use crate::tests::{Call, REPLAY, expect};
 use std::test::Fail;
 
 /// A program, a derivation, what is printed where it is accepted, and what is told where it is not.
-const ROWS: [(&[u8], &[u8], &str, &str); 21] = [
+const ROWS: [(&[u8], &[u8], &str, &str); 23] = [
     // Fields of one constructor.
     (
         b"data Nat { Z, S(Nat) }\nlemma l(a: Nat, b: Nat): S(a) = S(b) => a = b",
@@ -94,6 +94,20 @@ const ROWS: [(&[u8], &[u8], &str, &str); 21] = [
         b"goal 0\nnote pick.idem [] [] [$0]\n",
         "",
         "rejected: line 2 rule\n",
+    ),
+    // Cases of a type with a parameter.
+    (
+        b"data Opt<A> { None, Some(A) }\ndef first<A>(a: Opt<A>, b: Opt<A>): Opt<A> with idem { match a { None => b, Some(x) => a } }",
+        b"goal 0\ncase 0\nstep a0l / unfold\nstep a0l / select\nsame 0\nstep a0l / unfold\nstep a0l / select\nsame 0\n",
+        "accepted 1\n",
+        "",
+    ),
+    // Cases of a term.
+    (
+        b"data Nat { Z, S(Nat) }\ndef isz(a: Nat): Bool { match a { Z => True, S(p) => False } }\ndef pick(a: Nat, b: Nat): Nat with idem { match isz(a) { False => a, True => b } }",
+        b"goal 0\nstep a0l / unfold\nsplit isz($0)\nstep a0l /0 fact 0 lr\nstep a0l / select\nsame 0\nstep a0l /0 fact 0 lr\nstep a0l / select\nsame 0\n",
+        "accepted 1\n",
+        "",
     ),
     // Fields of patterns in patterns.
     (
