@@ -20,7 +20,7 @@ use Rattle.px_drive.specs.Sources.{IsSource, IsSourceFault, Sources}
 use Rattle.px_drive.specs.Laws.{OneSourceFault, NeverBoth, NeverRejected, UsageByWords, DoneOrUsage, EndsAreNamed, IsFaulty, SourceIsFaulty, FaultyIsSource, DoneIsChecked, DoneIsReplayed, RejectedIsRefused, TooLongIsLonger, LongIsTooLong, LongIsNotReplayed, RefusalsPrintNothing}
 
 -- what a line does after its program was read
-abbrev Goes : FilesSeen → SinkSeen → CommandLine → AnyProgram → End → List ℕ → Type 0
+abbrev pub Goes : FilesSeen → SinkSeen → CommandLine → AnyProgram → End → List ℕ → Type 0
 Goes files out (Check file) program = Prints (checked_line program) out
 Goes files out (Replay file derivation) program = AndThen (ReadsText Derivation files derivation) (λ bytes. AndThen (Accepts program bytes) (λ n. Prints (accepted_line n) out))
 
@@ -167,7 +167,7 @@ too_long_is_longer files out line file derivation printed = (λ h. program_is_lo
     steps (inr (text, _, inr (read, _, inr (bytes, _, inr (n, _, h))))) = absurd h
 
 -- a told text that is longer than the limit isn't read whole
-not_whole : (known : Option (List ℕ)) (text bytes : List ℕ) (limit : ℕ) → known ≡ Some text → limit < length text → Told known bytes → length bytes ≤ limit → ⊥
+pub not_whole : (known : Option (List ℕ)) (text bytes : List ℕ) (limit : ℕ) → known ≡ Some text → limit < length text → Told known bytes → length bytes ≤ limit → ⊥
 not_whole None text bytes limit known above told fits = cc
 not_whole (Some whole) text bytes limit known above told fits =
     let same : whole ≡ text = cc in
@@ -203,7 +203,7 @@ long_is_not_replayed files out file derivation printed bytes WriteFault known ab
 long_is_not_replayed files out file derivation printed bytes WriteFault known above (inr (text, _, inr (program, _, inl (h, _)))) = absurd h
 long_is_not_replayed files out file derivation printed bytes WriteFault known above (inr (text, _, inr (program, _, inr (steps, read, rest)))) =
     absurd (not_whole (files.bytes derivation) bytes steps (limit_of Derivation) known above read.0 read.1)
-long_is_not_replayed files out file derivation printed bytes Usage known above h = tt
+long_is_not_replayed files out file derivation printed bytes Usage known above h = no_usage files out (Replay file derivation) printed h
 long_is_not_replayed files out file derivation printed bytes (Source fault) known above h = tt
 long_is_not_replayed files out file derivation printed bytes ReadFault known above h = tt
 long_is_not_replayed files out file derivation printed bytes NoMemory known above h = tt

@@ -10,7 +10,7 @@ use Rattle.px_replay.specs.States.{State, start, at_end, IsPartial, IsDerivation
 use Rattle.px_replay.specs.Refusals.{Fails, FailsAfter, IsDue}
 use Rattle.px_replay.specs.Laws.{OneState, EndsAreDerivations, PartialsBegin}
 use Rattle.px_drive.specs.Derivations.{text_of, IsOneLine, BeginsWith, IsDerivationOf, IsRefusedLine, IsUnended, IsUnfinished, IsRejected, refused, unended, unfinished}
-use Rattle.px_drive.specs.Laws.{NeverRejected, OneRejection}
+use Rattle.px_drive.specs.Laws.{NeverRejected, OneRejection, SourceIsChecked}
 use Rattle.px_drive.proofs.Cuts.{Compared, longer, shorter, compared, ended, no_bytes, front_of, same_last}
 
 -- The lines of a text that begin a derivation, behind which no line stands.
@@ -119,17 +119,21 @@ module _ (ends : EndsAreDerivations) (begins : PartialsBegin) where
     counted : (n m : ℕ) (a b : List (List ℕ)) → n ≡ length a + 1 → m ≡ length b + 1 → a ≡ b → n ≡ m
     counted n m a b one other is = one ∙ (ap (λ (lines : List (List ℕ)). length lines + 1) is ∙ sym other)
 
-    pub one_rejection_law : OneRejection
-    one_rejection_law P text n m w v checked (refused a) (refused b) = two_refused P text n m w v checked a b
-    one_rejection_law P text n m w v checked (refused a) (unended b) = absurd (not_last P text (a.before ++ a.line ∷ []) b.before a.rest b.rest a.is a.none (unended_last P text m v b))
-    one_rejection_law P text n m w v checked (refused a) (unfinished b) = absurd (not_last P text (a.before ++ a.line ∷ []) b.lines a.rest [] a.is a.none (unfinished_last P text m v b))
-    one_rejection_law P text n m w v checked (unended a) (refused b) = absurd (not_last P text (b.before ++ b.line ∷ []) a.before b.rest a.rest b.is b.none (unended_last P text n w a))
-    one_rejection_law P text n m w v checked (unfinished a) (refused b) = absurd (not_last P text (b.before ++ b.line ∷ []) a.lines b.rest [] b.is b.none (unfinished_last P text n w a))
-    one_rejection_law P text n m w v checked (unended a) (unended b) =
+    -- of a checked program, a text is rejected at one line at most, for one reason
+    one_way : (P : Program) (text : List ℕ) (n m : ℕ) (w v : Why) → IsChecked P → IsRejected P text n w → IsRejected P text m v → (n ≡ m) × (w ≡ v)
+    one_way P text n m w v checked (refused a) (refused b) = two_refused P text n m w v checked a b
+    one_way P text n m w v checked (refused a) (unended b) = absurd (not_last P text (a.before ++ a.line ∷ []) b.before a.rest b.rest a.is a.none (unended_last P text m v b))
+    one_way P text n m w v checked (refused a) (unfinished b) = absurd (not_last P text (a.before ++ a.line ∷ []) b.lines a.rest [] a.is a.none (unfinished_last P text m v b))
+    one_way P text n m w v checked (unended a) (refused b) = absurd (not_last P text (b.before ++ b.line ∷ []) a.before b.rest a.rest b.is b.none (unended_last P text n w a))
+    one_way P text n m w v checked (unfinished a) (refused b) = absurd (not_last P text (b.before ++ b.line ∷ []) a.lines b.rest [] b.is b.none (unfinished_last P text n w a))
+    one_way P text n m w v checked (unended a) (unended b) =
         (counted n m a.before b.before a.count b.count (last_is P text a.before b.before a.rest b.rest (unended_last P text n w a) (unended_last P text m v b)).0, a.form ∙ sym b.form)
-    one_rejection_law P text n m w v checked (unended a) (unfinished b) =
+    one_way P text n m w v checked (unended a) (unfinished b) =
         absurd (empty a.rest a.some (last_is P text a.before b.lines a.rest [] (unended_last P text n w a) (unfinished_last P text m v b)).1)
-    one_rejection_law P text n m w v checked (unfinished a) (unended b) =
+    one_way P text n m w v checked (unfinished a) (unended b) =
         absurd (empty b.rest b.some (last_is P text b.before a.lines b.rest [] (unended_last P text m v b) (unfinished_last P text n w a)).1)
-    one_rejection_law P text n m w v checked (unfinished a) (unfinished b) =
+    one_way P text n m w v checked (unfinished a) (unfinished b) =
         (counted n m a.lines b.lines a.count b.count (last_is P text a.lines b.lines [] [] (unfinished_last P text n w a) (unfinished_last P text m v b)).0, a.ends ∙ sym b.ends)
+
+    pub one_rejection_law : SourceIsChecked → OneRejection
+    one_rejection_law checked source P is text n m w v one other = one_way P text n m w v (checked source P is) one other

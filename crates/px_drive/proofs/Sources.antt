@@ -5,6 +5,9 @@ use Rattle.px_base.specs.declared.raw.RawProgram.{RawProgram}
 use Rattle.px_base.specs.Fitting.{IsFitting}
 use Rattle.px_terms.specs.declared.program.Program.{Program}
 use Rattle.px_terms.specs.Descent.{AllDescend}
+use Rattle.px_base.specs.Lawful.{IsLawful}
+use Rattle.px_terms.specs.Extending.{IsWellFounded}
+use Rattle.px_totality.specs.Laws.{EachCallHasValue, EachFunctionHasValue, EachTermHasValue, ExtensionsCompose}
 use Rattle.px_soundness.specs.Laws.{DerivationsAreSound}
 use Rattle.px_lexer.specs.declared.token.Token.{Token}
 use Rattle.px_lexer.specs.declared.scan.LexEnd.{LexEnd}
@@ -26,6 +29,7 @@ use Rattle.px_scope.specs.declared.ends.ScopeEnd.{ScopeEnd}
 use Rattle.px_scope.specs.declared.ends.ScopeEnd.TheVariants as scoping
 use Rattle.px_scope.specs.Answers as scope_answers
 use Rattle.px_scope.specs.Laws as scope
+use Rattle.px_scope.proofs.LawfulNames.{lawful_program}
 use Rattle.px_types.specs.declared.ends.TypeKind.{TypeKind}
 use Rattle.px_types.specs.declared.ends.TypeEnd.{TypeEnd}
 use Rattle.px_types.specs.declared.ends.TypeEnd.TheVariants as typing_ends
@@ -39,7 +43,7 @@ use Rattle.px_drive.specs.declared.outcome.End.{End}
 use Rattle.px_drive.specs.declared.outcome.SourceFault.TheVariants.{Lex, Parse, Scope, Typing, Descent}
 use Rattle.px_drive.specs.Sources.{IsNumbered, IsSource, IsParseFault, IsScopeFault, IsTypingFault, IsDescentFault, IsSourceFault, Sources}
 use Rattle.px_drive.specs.Refusals.{end_of_lexing, end_of_parsing, end_of_scoping, end_of_typing, end_of_descent}
-use Rattle.px_drive.specs.Laws.{OneSource, OneSourceFault, NeverBoth, ScopeFaultIsFirst, AcceptedIsTrue}
+use Rattle.px_drive.specs.Laws.{OneSource, OneSourceFault, NeverBoth, SourceExtendsItself, SourceIsChecked, ScopeFaultIsFirst, AcceptedIsTrue}
 
 -- a text that has a tree
 record HasTree (text : List ℕ) (surface : Surface) : Type 0 where
@@ -203,7 +207,7 @@ module _ (laws : AreOne) (never : AreNeverBoth) where
     one_source_fault_law text (Typing rule at) (Descent def call) a b = absurd (no_typing_fault text b.raw b.program rule at b.is_numbered b.is_typed a)
     one_source_fault_law text (Descent def call) (Typing rule place) a b = absurd (no_typing_fault text a.raw a.program rule place a.is_numbered a.is_typed b)
 
--- the program of a text is typed and descends, so what is derived of it holds
+-- the program of a text is typed and descends, so it extends itself, and it is checked
 module _ (trees_are_fine : parser.TreesAreFine) (numberings_fit : scope.NumberingsFit) (typed : types.ProgramsAreTyped) where
   fits_of : (text : List ℕ) (raw : RawProgram) → IsNumbered text raw → IsFitting raw
   fits_of text raw numbered =
@@ -211,9 +215,36 @@ module _ (trees_are_fine : parser.TreesAreFine) (numberings_fit : scope.Numberin
       let size : length text ≤ PROGRAM_BYTES = numbered.fits in
       numberings_fit numbered.surface raw (omega (arith, fine.fits, size)) fine.nests fine.filled numbered.is_numbering
 
-  pub accepted_is_true_law : DerivationsAreSound → AcceptedIsTrue
-  accepted_is_true_law sound text derivation P source derived =
-      sound P (record { typed = typed source.raw P (fits_of text source.raw source.is_numbered) source.is_typed; descends = source.descends }) derived.derivation.trees derived.derivation.derivation
+  founded : (text : List ℕ) (P : Program) → IsSource text P → IsWellFounded P
+  founded text P source = record { typed = typed source.raw P (fits_of text source.raw source.is_numbered) source.is_typed; descends = source.descends }
+
+  pub source_extends_itself_law : ExtensionsCompose → SourceExtendsItself
+  source_extends_itself_law extensions text P source = extensions.itself P (founded text P source)
+
+  -- the names of the program of a text have the form of their kind, and no two of a kind are equal
+  names_are_lawful : (text : List ℕ) (P : Program) → IsSource text P → IsLawful P.names
+  names_are_lawful text P source =
+      let numbered : IsNumbered text source.raw = source.is_numbered in
+      let fine : parser.IsFine text numbered.surface = trees_are_fine text numbered.tokens numbered.surface numbered.are_tokens numbered.is_tree in
+      let names : P.names ≡ source.raw.names = ap (λ (program : Program). program.names) source.is_typed.named in
+      subst IsLawful (sym names) (lawful_program numbered.surface source.raw fine.named numbered.is_numbering)
+
+  pub source_is_checked_law : types.ProgramsHaveNumbers → EachCallHasValue → EachFunctionHasValue → EachTermHasValue → SourceIsChecked
+  source_is_checked_law numbers calls functions terms text P source = record {
+    typed = (founded text P source).typed;
+    descends = source.descends;
+    lawful = names_are_lawful text P source;
+    numbered = numbers source.raw P (fits_of text source.raw source.is_numbered) source.is_typed;
+    values = record {
+      in_each = λ Q extends. record { calls = calls Q extends.founded; functions = functions Q extends.founded; terms = terms Q extends.founded };
+    };
+  }
+
+-- what is derived of the program of a text holds in its extensions, and it is one of them
+pub accepted_is_true_law : SourceExtendsItself → DerivationsAreSound → AcceptedIsTrue
+accepted_is_true_law extends sound text derivation P source derived =
+    let itself = extends text P source in
+    (sound P itself.founded derived.derivation.trees derived.derivation.derivation, itself)
 
 -- what stands later among the names stands among them
 one_later : (u : Use) (us : List Use) (other : Use) → Contains us other → Contains (u ∷ us) other

@@ -29,7 +29,8 @@ of_line words files out (Some (Check file)) law ends =
     record { text = run.text; program = run.program; text_is = run.text_is; is_source = run.is_source }
 of_line words files out (Some (Replay file derivation)) law ends =
     let run = done_is_replayed files out file derivation ends.1.printed ends.1.allowed in
-    record { text = run.text; program = run.program; text_is = run.text_is; is_source = run.is_source; holds = law run.text run.steps run.program run.is_source run.is_derivation }
+    let true_of = law run.text run.steps run.program run.is_source run.is_derivation in
+    record { text = run.text; program = run.program; text_is = run.text_is; is_source = run.is_source; holds = true_of.0; itself = true_of.1 }
 
 -- where a line ends Done, its text is a program, and what was accepted is true
 pub headline : (words : List (List ℕ)) (files : FilesSeen) (out err : SinkSeen) (outcome : Outcome) → IsAnswer words files out err outcome → AcceptedIsTrue → outcome.end ≡ Done → Headline files.bytes outcome.line

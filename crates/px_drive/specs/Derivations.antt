@@ -1,4 +1,6 @@
 -- When a text is a derivation of a program, and where and why it is none: its lines, each ended by a line feed, in turn.
+-- A partial derivation is trees of the program's first obligations, and then maybe the header and the first rows of one more
+-- tree. It needs no completion: a program may have a partial derivation, as that of no lines, and no derivation at all.
 use Rattle.std.specs.Prelude.{◌≡◌, ℕ, ◌+◌, ◌<◌, List, [], ◌∷◌, ◌++◌, length, Contains}
 use Rattle.std.specs.List.{AllByRecursion, flat_map}
 use Rattle.px_terms.specs.declared.program.Program.{Program}
@@ -26,7 +28,8 @@ pub record IsDerivationOf (P : Program) (text : List ℕ) : Type 0 where
   pub is : BeginsWith text lines []
   pub derivation : IsDerivationText P lines
 
--- The lines before this one begin a derivation of the program, and with this one they begin none: it is wrong for this reason.
+-- The lines before this one are a partial derivation of the program, and with this one they are none any more: it is wrong for
+-- this reason.
 pub record IsRefusedLine (P : Program) (text : List ℕ) (number : ℕ) (reason : Why) : Type 0 where
   pub before : List (List ℕ)
   pub line : List ℕ
@@ -36,7 +39,7 @@ pub record IsRefusedLine (P : Program) (text : List ℕ) (number : ℕ) (reason 
   pub fails : FailsAfter P before line reason
   pub none : ¬ IsPartial P (before ++ line ∷ [])
 
--- The lines begin a derivation of the program, and behind them stand bytes, but no line feed.
+-- The lines are a partial derivation of the program, and behind them stand bytes, but no line feed.
 pub record IsUnended (P : Program) (text : List ℕ) (number : ℕ) (reason : Why) : Type 0 where
   pub before : List (List ℕ)
   pub rest : List ℕ
@@ -47,7 +50,7 @@ pub record IsUnended (P : Program) (text : List ℕ) (number : ℕ) (reason : Wh
   pub some : 0 < length rest
   pub one_line : IsOneLine rest
 
--- The lines begin a derivation of the program, but are none, and the text ends behind them.
+-- The lines are a partial derivation of the program, but no derivation of it, and the text ends behind them.
 pub record IsUnfinished (P : Program) (text : List ℕ) (number : ℕ) (reason : Why) : Type 0 where
   pub lines : List (List ℕ)
   pub is : BeginsWith text lines []
@@ -56,8 +59,8 @@ pub record IsUnfinished (P : Program) (text : List ℕ) (number : ℕ) (reason :
   pub partial : IsPartial P lines
   pub none : ¬ IsDerivationText P lines
 
--- the text is no derivation of the program: the line of this number, from 1, is the first with which no derivation begins, and
--- this is what is wrong with it
+-- the text is no derivation of the program: the line of this number, from 1, is the first with which the lines are no partial
+-- derivation of it any more, or has no line feed, or is missing, and this is what is wrong with it
 pub data IsRejected (P : Program) (text : List ℕ) (number : ℕ) (reason : Why) : Type 0 where
   refused : IsRefusedLine P text number reason → IsRejected P text number reason
   unended : IsUnended P text number reason → IsRejected P text number reason

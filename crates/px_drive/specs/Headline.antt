@@ -2,6 +2,7 @@
 -- refused, it is the first to be.
 use Rattle.std.specs.Prelude.{ℕ, List, ⊤, Option, Some, None, MatchOption}
 use Rattle.px_terms.specs.declared.program.Program.{Program}
+use Rattle.px_terms.specs.Extending.{IsExtension}
 use Rattle.px_terms.specs.Obligations.{AllHoldInExtensions}
 use Rattle.px_world.specs.Known.{Told}
 use Rattle.px_scope.specs.declared.ends.ScopeKind.{ScopeKind}
@@ -21,13 +22,14 @@ pub record ReadsProgram (known : List ℕ → Option (List ℕ)) (file : List �
   pub is_source : IsSource text program
 
 -- The program of the bytes that were read of a file, which are the file's where these are told; each of its obligations
--- holds in the language's meaning, in every extension of the program.
+-- holds in the language's meaning, in every extension of the program; and the program is one of these itself.
 pub record ReadsTrue (known : List ℕ → Option (List ℕ)) (file : List ℕ) : Type 0 where
   pub text : List ℕ
   pub program : Program
   pub text_is : Told (known file) text
   pub is_source : IsSource text program
   pub holds : AllHoldInExtensions program
+  pub itself : IsExtension program program
 
 -- what is true where a line ends Done: a row for each command
 abbrev pub Headline : (List ℕ → Option (List ℕ)) → Option CommandLine → Type 0

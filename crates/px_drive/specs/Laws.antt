@@ -1,6 +1,7 @@
 -- What the sources of programs are, and what the table of causes says of every call.
 use Rattle.std.specs.Prelude.{◌≡◌, ◌≢◌, ℕ, ◌<◌, ◌≤◌, ◌⊎◌, List, [], length, ⊤, Option, None, Some}
 use Rattle.px_terms.specs.declared.program.Program.{Program}
+use Rattle.px_terms.specs.Extending.{IsExtension}
 use Rattle.px_terms.specs.Obligations.{AllHoldInExtensions}
 use Rattle.px_descent.specs.Checked.{IsChecked as HoldsChecked}
 use Rattle.px_replay.specs.declared.ends.Why.{Why}
@@ -20,6 +21,7 @@ use Rattle.px_drive.specs.Sources.{IsSource, IsSourceFault, IsFirstBroken}
 use Rattle.px_drive.specs.Derivations.{IsDerivationOf, IsRejected}
 use Rattle.px_drive.specs.Ends.{limit_of, LineEnds}
 use Rattle.px_drive.specs.Answers.{Ends}
+use Rattle.px_drive.specs.Completeness.{HasText}
 
 -- a text is at most one program
 abbrev pub OneSource : Type 0
@@ -33,6 +35,15 @@ OneSourceFault = (text : List ℕ) (one other : SourceFault) → IsSourceFault t
 abbrev pub NeverBoth : Type 0
 NeverBoth = (text : List ℕ) (P : Program) (fault : SourceFault) → IsSource text P → IsSourceFault text fault → ⊥
 
+-- the program of a text is an extension of itself: it is typed, and every definition of it descends
+abbrev pub SourceExtendsItself : Type 0
+SourceExtendsItself = (text : List ℕ) (P : Program) → IsSource text P → IsExtension P P
+
+-- the program of a text is checked: besides, its names are lawful and its parts can be numbered, and in each extension of it
+-- each call and each typed term has exactly one value
+abbrev pub SourceIsChecked : Type 0
+SourceIsChecked = (text : List ℕ) (P : Program) → IsSource text P → HoldsChecked P
+
 -- a fault of scope is the first by byte: a name of the text breaks that rule there, and none breaks a rule before
 abbrev pub ScopeFaultIsFirst : Type 0
 ScopeFaultIsFirst = (text : List ℕ) (kind : ScopeKind) (at : ℕ) → IsSourceFault text (Scope kind at) → IsFirstBroken text kind at
@@ -41,13 +52,15 @@ ScopeFaultIsFirst = (text : List ℕ) (kind : ScopeKind) (at : ℕ) → IsSource
 abbrev pub NeverRejected : Type 0
 NeverRejected = (P : Program) (text : List ℕ) (line : ℕ) (why : Why) → IsDerivationOf P text → ¬ IsRejected P text line why
 
--- of a checked program, a text is rejected at one line at most, for one reason
+-- of the program of a text, a text is rejected at one line at most, for one reason
 abbrev pub OneRejection : Type 0
-OneRejection = (P : Program) (text : List ℕ) (line other : ℕ) (why reason : Why) → HoldsChecked P → IsRejected P text line why → IsRejected P text other reason → (line ≡ other) × (why ≡ reason)
+OneRejection = (source : List ℕ) (P : Program) → IsSource source P → (text : List ℕ) (line other : ℕ) (why reason : Why) → IsRejected P text line why → IsRejected P text other reason
+    → (line ≡ other) × (why ≡ reason)
 
--- a derivation of the program of a text shows that each of its obligations holds, in every extension of the program
+-- a derivation of the program of a text shows that each of its obligations holds, in every extension of the program, and the
+-- program is one of these itself
 abbrev pub AcceptedIsTrue : Type 0
-AcceptedIsTrue = (text derivation : List ℕ) (P : Program) → IsSource text P → IsDerivationOf P derivation → AllHoldInExtensions P
+AcceptedIsTrue = (text derivation : List ℕ) (P : Program) → IsSource text P → IsDerivationOf P derivation → AllHoldInExtensions P × IsExtension P P
 
 -- Usage comes only where the words are no plain line, and there nothing else comes but want of memory
 abbrev pub UsageByWords : Type 0
@@ -125,8 +138,9 @@ pub record IsReplayed (files : FilesSeen) (file derivation printed : List ℕ) :
 abbrev pub DoneIsReplayed : Type 0
 DoneIsReplayed = (files : FilesSeen) (out : SinkSeen) (file derivation printed : List ℕ) → LineEnds files out (Replay file derivation) Done printed → IsReplayed files file derivation printed
 
--- a derivation was refused: the bytes that were read are none of the program, this line is the first with which they begin none, this
--- is what is wrong with it, and both texts are those of the files where these tell their bytes
+-- a derivation was refused: the bytes that were read are none of the program, this line is the first with which their lines
+-- are no partial derivation of it any more, this is what is wrong with it, and both texts are those of the files where these
+-- tell their bytes
 pub record IsRefused (files : FilesSeen) (file derivation : List ℕ) (number : ℕ) (why : Why) : Type 0 where
   pub text : List ℕ
   pub steps : List ℕ
@@ -141,6 +155,12 @@ pub record IsRefused (files : FilesSeen) (file derivation : List ℕ) (number : 
 abbrev pub RejectedIsRefused : Type 0
 RejectedIsRefused = (files : FilesSeen) (out : SinkSeen) (file derivation printed : List ℕ) (number : ℕ) (why : Why) → LineEnds files out (Replay file derivation) (Rejected number why) printed → IsRefused files file derivation number why
 
+-- a derivation's text that is told, within its limit, and rejected of the program of a text that is told, within its limit,
+-- is refused for it, but for a fault of reading or want of memory
+abbrev pub RefusedIsRejected : Type 0
+RefusedIsRejected = (files : FilesSeen) (out : SinkSeen) (file derivation printed text steps : List ℕ) (P : Program) (number : ℕ) (why : Why) (end : End) → HasText files which.Program file text → IsSource text P
+    → HasText files which.Derivation derivation steps → IsRejected P steps number why → LineEnds files out (Replay file derivation) end printed → (end ≡ Rejected number why) ⊎ ((end ≡ ReadFault) ⊎ (end ≡ NoMemory))
+
 -- a text that is told is too long only where it has more bytes than its limit
 abbrev pub TooLongIsLonger : Type 0
 TooLongIsLonger = (files : FilesSeen) (out : SinkSeen) (line : CommandLine) (file derivation printed : List ℕ)
@@ -152,9 +172,10 @@ abbrev pub LongIsTooLong : Type 0
 LongIsTooLong = (files : FilesSeen) (out : SinkSeen) (line : CommandLine) (printed text : List ℕ) (end : End) → files.bytes (program_of line) ≡ Some text → limit_of which.Program < length text
     → LineEnds files out line end printed → (end ≡ TooLong which.Program) ⊎ ((end ≡ ReadFault) ⊎ (end ≡ NoMemory))
 
--- an end that comes before a derivation was read whole
+-- an end of a replay that comes before a derivation was read whole
 abbrev pub EndsEarly : End → Type 0
 EndsEarly Done = ⊥
+EndsEarly Usage = ⊥
 EndsEarly (Rejected _ _) = ⊥
 EndsEarly WriteFault = ⊥
 EndsEarly _ = ⊤
@@ -163,6 +184,12 @@ EndsEarly _ = ⊤
 abbrev pub LongIsNotReplayed : Type 0
 LongIsNotReplayed = (files : FilesSeen) (out : SinkSeen) (file derivation printed bytes : List ℕ) (end : End) → files.bytes derivation ≡ Some bytes → limit_of which.Derivation < length bytes
     → LineEnds files out (Replay file derivation) end printed → EndsEarly end
+
+-- of a program that is told, within its limit, a derivation that is told and has more bytes than its limit is too long, but
+-- for a fault of reading or want of memory
+abbrev pub LongDerivationIsTooLong : Type 0
+LongDerivationIsTooLong = (files : FilesSeen) (out : SinkSeen) (file derivation printed text bytes : List ℕ) (P : Program) (end : End) → HasText files which.Program file text → IsSource text P
+    → files.bytes derivation ≡ Some bytes → limit_of which.Derivation < length bytes → LineEnds files out (Replay file derivation) end printed → (end ≡ TooLong which.Derivation) ⊎ ((end ≡ ReadFault) ⊎ (end ≡ NoMemory))
 
 -- a refusal prints nothing, but for a failed write
 abbrev pub RefusalsPrintNothing : Type 0

@@ -1,7 +1,7 @@
 //! What the sources of programs are, and what the table of causes says of every call, as functions whose contracts are
 //! these laws.
 
-ghost use Rattle.px_drive.specs.Laws.{OneSource, OneSourceFault, NeverBoth, ScopeFaultIsFirst, NeverRejected, OneRejection, AcceptedIsTrue, UsageByWords, DoneOrUsage, EndsAreNamed, SourceIsFaulty, FaultyIsSource, DoneIsChecked, DoneIsReplayed, RejectedIsRefused, TooLongIsLonger, LongIsTooLong, LongIsNotReplayed, RefusalsPrintNothing};
+ghost use Rattle.px_drive.specs.Laws.{OneSource, OneSourceFault, NeverBoth, SourceExtendsItself, SourceIsChecked, ScopeFaultIsFirst, NeverRejected, OneRejection, AcceptedIsTrue, UsageByWords, DoneOrUsage, EndsAreNamed, SourceIsFaulty, FaultyIsSource, DoneIsChecked, DoneIsReplayed, RejectedIsRefused, RefusedIsRejected, TooLongIsLonger, LongIsTooLong, LongIsNotReplayed, LongDerivationIsTooLong, RefusalsPrintNothing};
 
 use px_derive::one_row;
 use px_descent::{one_first_stuck, stuck_excludes_descent};
@@ -10,7 +10,8 @@ use px_parser::{one_tree, trees_are_fine};
 use px_replay::{ends_are_derivations, one_state, partials_begin};
 use px_scope::{each_name_is_listed, fault_is_first, names_rise, numberings_fit, one_numbering};
 use px_soundness::derivations_are_sound;
-use px_types::{never_typed_and_broken, one_first_fault, one_program, programs_are_typed};
+use px_totality::{each_call_has_value, each_function_has_value, each_term_has_value, extensions_compose};
+use px_types::{never_typed_and_broken, one_first_fault, one_program, programs_are_typed, programs_have_numbers};
 
 /// A text is at most one program.
 pub fn one_source()
@@ -63,6 +64,30 @@ pub fn never_both()
     stuck_excludes_descent();
 }
 
+/// The program of a text is an extension of itself: it is typed, and every definition of it descends.
+pub fn source_extends_itself()
+    ensures { SourceExtendsItself }
+{
+    trees_are_fine();
+    numberings_fit();
+    programs_are_typed();
+    extensions_compose();
+}
+
+/// The program of a text is checked: besides, its names are lawful and its parts can be numbered, and in each extension of it
+/// each call and each typed term has exactly one value.
+pub fn source_is_checked()
+    ensures { SourceIsChecked }
+{
+    trees_are_fine();
+    numberings_fit();
+    programs_are_typed();
+    programs_have_numbers();
+    each_call_has_value();
+    each_function_has_value();
+    each_term_has_value();
+}
+
 /// A fault of scope is at the least byte of the text at which a name breaks a rule.
 pub fn scope_fault_is_first()
     ensures { ScopeFaultIsFirst }
@@ -80,7 +105,7 @@ pub fn never_rejected()
     partials_begin();
 }
 
-/// Of a checked program, a text is rejected at one line at most, for one reason.
+/// Of the program of a text, a text is rejected at one line at most, for one reason.
 pub fn one_rejection()
     ensures { OneRejection }
 {
@@ -88,15 +113,15 @@ pub fn one_rejection()
     partials_begin();
     one_state();
     one_row();
+    source_is_checked();
 }
 
-/// A derivation of the program of a text shows that each of its obligations holds, in every extension of the program.
+/// A derivation of the program of a text shows that each of its obligations holds, in every extension of the program, and the
+/// program is one of these itself.
 pub fn accepted_is_true()
     ensures { AcceptedIsTrue }
 {
-    trees_are_fine();
-    numberings_fit();
-    programs_are_typed();
+    source_extends_itself();
     derivations_are_sound();
 }
 
@@ -147,6 +172,17 @@ pub fn rejected_is_refused()
     never_rejected();
 }
 
+/// A derivation's text that is told, within its limit, and rejected of the program of a text that is told, within its limit, is
+/// refused for it, but for a fault of reading or want of memory.
+pub fn refused_is_rejected()
+    ensures { RefusedIsRejected }
+{
+    one_source();
+    never_both();
+    never_rejected();
+    one_rejection();
+}
+
 /// A text that is told is too long only where it has more bytes than its limit.
 pub fn too_long_is_longer()
     ensures { TooLongIsLonger }
@@ -162,6 +198,15 @@ pub fn long_is_too_long()
 pub fn long_is_not_replayed()
     ensures { LongIsNotReplayed }
 {}
+
+/// Of a program that is told, within its limit, a derivation that is told and has more bytes than its limit is too long, but for
+/// a fault of reading or want of memory.
+pub fn long_derivation_is_too_long()
+    ensures { LongDerivationIsTooLong }
+{
+    one_source();
+    never_both();
+}
 
 /// A refusal prints nothing, but for a failed write.
 pub fn refusals_print_nothing()

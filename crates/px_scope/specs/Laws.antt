@@ -3,6 +3,7 @@ use Rattle.std.specs.Prelude.{◌≡◌, ℕ, ◌<◌, ◌≤◌, ◌||◌, IsTr
 use Rattle.px_base.specs.declared.limits.TheConstants.{PROGRAM_BYTES}
 use Rattle.px_base.specs.declared.raw.RawProgram.{RawProgram}
 use Rattle.px_base.specs.Fitting.{IsFitting}
+use Rattle.px_base.specs.Lawful.{IsLawful}
 use Rattle.px_lexer.specs.declared.token.Token.{Token}
 use Rattle.px_lexer.specs.Tokens.{AreTokens}
 use Rattle.px_parser.specs.declared.surface.Surface.{Surface}
@@ -10,6 +11,7 @@ use Rattle.px_parser.specs.Kinds.{is_name, is_property}
 use Rattle.px_parser.specs.Faults.{IsProgramOf}
 use Rattle.px_parser.specs.Sizes.{surface_size, IsWithinNesting}
 use Rattle.px_parser.specs.Filled.{IsFilled}
+use Rattle.px_parser.specs.Named.{AreNamed}
 use Rattle.px_scope.specs.declared.ends.ScopeKind.{ScopeKind}
 use Rattle.px_scope.specs.Uses.{Use, Broken, first_broken}
 use Rattle.px_scope.specs.ItemUses.{text_uses}
@@ -52,3 +54,8 @@ EachNameIsListed = (text : List ℕ) (tokens : List Token) (surface : Surface) �
 -- the numbered program of a surface that is within the limits is as the check of types asks for it
 abbrev pub NumberingsFit : Type 0
 NumberingsFit = (surface : Surface) (P : RawProgram) → surface_size surface ≤ PROGRAM_BYTES → IsWithinNesting surface → IsFilled surface → IsNumbering surface P → IsFitting P
+
+-- the names of the numbered program of a surface have the form of their kind, and no two of a kind are equal, where those of the
+-- surface have the form of theirs
+abbrev pub NamesAreLawful : Type 0
+NamesAreLawful = (surface : Surface) (P : RawProgram) → AreNamed surface → IsNumbering surface P → IsLawful P.names

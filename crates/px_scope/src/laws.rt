@@ -1,4 +1,4 @@
-ghost use Rattle.px_scope.specs.Laws.{OneNumbering, OneFault, NeverBoth, NamesRise, FaultIsFirst, EachNameIsListed, NumberingsFit};
+ghost use Rattle.px_scope.specs.Laws.{OneNumbering, OneFault, NeverBoth, NamesRise, FaultIsFirst, EachNameIsListed, NumberingsFit, NamesAreLawful};
 
 /// A surface has at most one numbered program.
 pub fn one_numbering()
@@ -34,4 +34,10 @@ pub fn each_name_is_listed()
 /// lemma, is as the check of types asks for it.
 pub fn numberings_fit()
     ensures { NumberingsFit }
+{}
+
+/// The names of the numbered program of a surface whose names have the form of their kind are lawful: they have the form of
+/// theirs, and no two of a kind are equal.
+pub fn names_are_lawful()
+    ensures { NamesAreLawful }
 {}

@@ -31,7 +31,7 @@ mod types;
 
 pub use ends::{ScopeEnd, ScopeKind};
 pub use laws::{
-    each_name_is_listed, fault_is_first, names_rise, never_both, numberings_fit, one_fault,
-    one_numbering,
+    each_name_is_listed, fault_is_first, names_are_lawful, names_rise, never_both, numberings_fit,
+    one_fault, one_numbering,
 };
 pub use programs::resolve;
