@@ -5,5 +5,6 @@ pub mod Rejections
 pub mod Feedings
 pub mod Chains
 pub mod Causes
+pub mod ReplayEnds
 pub mod Truths
 pub mod Completeness

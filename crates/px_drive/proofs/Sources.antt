@@ -29,7 +29,6 @@ use Rattle.px_scope.specs.declared.ends.ScopeEnd.{ScopeEnd}
 use Rattle.px_scope.specs.declared.ends.ScopeEnd.TheVariants as scoping
 use Rattle.px_scope.specs.Answers as scope_answers
 use Rattle.px_scope.specs.Laws as scope
-use Rattle.px_scope.proofs.LawfulNames.{lawful_program}
 use Rattle.px_types.specs.declared.ends.TypeKind.{TypeKind}
 use Rattle.px_types.specs.declared.ends.TypeEnd.{TypeEnd}
 use Rattle.px_types.specs.declared.ends.TypeEnd.TheVariants as typing_ends
@@ -222,18 +221,18 @@ module _ (trees_are_fine : parser.TreesAreFine) (numberings_fit : scope.Numberin
   source_extends_itself_law extensions text P source = extensions.itself P (founded text P source)
 
   -- the names of the program of a text have the form of their kind, and no two of a kind are equal
-  names_are_lawful : (text : List ℕ) (P : Program) → IsSource text P → IsLawful P.names
-  names_are_lawful text P source =
+  lawful_names : scope.NamesAreLawful → (text : List ℕ) (P : Program) → IsSource text P → IsLawful P.names
+  lawful_names lawful text P source =
       let numbered : IsNumbered text source.raw = source.is_numbered in
       let fine : parser.IsFine text numbered.surface = trees_are_fine text numbered.tokens numbered.surface numbered.are_tokens numbered.is_tree in
       let names : P.names ≡ source.raw.names = ap (λ (program : Program). program.names) source.is_typed.named in
-      subst IsLawful (sym names) (lawful_program numbered.surface source.raw fine.named numbered.is_numbering)
+      subst IsLawful (sym names) (lawful numbered.surface source.raw fine.named numbered.is_numbering)
 
-  pub source_is_checked_law : types.ProgramsHaveNumbers → EachCallHasValue → EachFunctionHasValue → EachTermHasValue → SourceIsChecked
-  source_is_checked_law numbers calls functions terms text P source = record {
+  pub source_is_checked_law : scope.NamesAreLawful → types.ProgramsHaveNumbers → EachCallHasValue → EachFunctionHasValue → EachTermHasValue → SourceIsChecked
+  source_is_checked_law lawful numbers calls functions terms text P source = record {
     typed = (founded text P source).typed;
     descends = source.descends;
-    lawful = names_are_lawful text P source;
+    lawful = lawful_names lawful text P source;
     numbered = numbers source.raw P (fits_of text source.raw source.is_numbered) source.is_typed;
     values = record {
       in_each = λ Q extends. record { calls = calls Q extends.founded; functions = functions Q extends.founded; terms = terms Q extends.founded };

@@ -8,10 +8,17 @@ use px_descent::{one_first_stuck, stuck_excludes_descent};
 use px_lexer::one_list;
 use px_parser::{one_tree, trees_are_fine};
 use px_replay::{ends_are_derivations, one_state, partials_begin};
-use px_scope::{each_name_is_listed, fault_is_first, names_rise, numberings_fit, one_numbering};
+use px_scope::{
+    each_name_is_listed, fault_is_first, names_are_lawful, names_rise, numberings_fit,
+    one_numbering,
+};
 use px_soundness::derivations_are_sound;
-use px_totality::{each_call_has_value, each_function_has_value, each_term_has_value, extensions_compose};
-use px_types::{never_typed_and_broken, one_first_fault, one_program, programs_are_typed, programs_have_numbers};
+use px_totality::{
+    each_call_has_value, each_function_has_value, each_term_has_value, extensions_compose,
+};
+use px_types::{
+    never_typed_and_broken, one_first_fault, one_program, programs_are_typed, programs_have_numbers,
+};
 
 /// A text is at most one program.
 pub fn one_source()
@@ -81,6 +88,7 @@ pub fn source_is_checked()
 {
     trees_are_fine();
     numberings_fit();
+    names_are_lawful();
     programs_are_typed();
     programs_have_numbers();
     each_call_has_value();
