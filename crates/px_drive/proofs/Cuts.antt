@@ -44,7 +44,7 @@ compare [] b r s one other is = longer b refl is
 compare (x ∷ a) [] r s one other is = shorter x a refl (sym is)
 compare (x ∷ a) (y ∷ b) r s one other is =
     let both : (x ++ 10 ∷ []) ++ (text_of a ++ r) ≡ (y ++ 10 ∷ []) ++ (text_of b ++ s) =
-        sym (append_assoc (x ++ 10 ∷ []) (text_of a) r) ∙ (is ∙ append_assoc (y ++ 10 ∷ []) (text_of b) s) in
+    sym (append_assoc (x ++ 10 ∷ []) (text_of a) r) ∙ (is ∙ append_assoc (y ++ 10 ∷ []) (text_of b) s) in
     let same : (x ≡ y) × (text_of a ++ r ≡ text_of b ++ s) = same_line x y (text_of a ++ r) (text_of b ++ s) one.0 other.0 both in
     lift x y a b r s same.0 (compare a b r s one.1 other.1 same.1)
 

@@ -44,10 +44,10 @@ begins_longer text lines at end next begins piece =
     let line : List ℕ = slice_range text at end in
     let rest : List ℕ = drop next text in
     let one : ((line ++ 10 ∷ []) ++ []) ++ rest ≡ line ++ 10 ∷ rest =
-        ap (λ (bytes : List ℕ). bytes ++ rest) (append-nil (line ++ 10 ∷ [])) ∙ append_assoc line (10 ∷ []) rest in
+    ap (λ (bytes : List ℕ). bytes ++ rest) (append-nil (line ++ 10 ∷ [])) ∙ append_assoc line (10 ∷ []) rest in
     let all : text_of (lines ++ line ∷ []) ++ rest ≡ text_of lines ++ (line ++ 10 ∷ rest) =
-        ap (λ (bytes : List ℕ). bytes ++ rest) (flat_map-append (λ (l : List ℕ). l ++ 10 ∷ []) lines (line ∷ []))
-        ∙ (append_assoc (text_of lines) ((line ++ 10 ∷ []) ++ []) rest ∙ ap (λ (bytes : List ℕ). text_of lines ++ bytes) one) in
+    ap (λ (bytes : List ℕ). bytes ++ rest) (flat_map-append (λ (l : List ℕ). l ++ 10 ∷ []) lines (line ∷ []))
+    ∙ (append_assoc (text_of lines) ((line ++ 10 ∷ []) ++ []) rest ∙ ap (λ (bytes : List ℕ). text_of lines ++ bytes) one) in
     record {
       is = begins.is ∙ (ap (λ (bytes : List ℕ). text_of lines ++ bytes) piece.whole ∙ sym all);
       each = each_last lines line begins.each piece.one_line;

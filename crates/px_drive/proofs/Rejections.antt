@@ -105,10 +105,11 @@ module _ (ends : EndsAreDerivations) (begins : PartialsBegin) where
       where
         same : a.before ++ a.line ∷ [] ≡ b.before ++ b.line ∷ [] → (n ≡ m) × (w ≡ v)
         same is =
-            let fronts : (a.before ≡ b.before) × (a.line ≡ b.line) = same_last a.before b.before a.line b.line is in
-            (a.count ∙ (ap (λ (lines : List (List ℕ)). length lines + 1) fronts.0 ∙ sym b.count),
-             same_reason P checked b.before b.line w v
-                (subst (λ (line : List ℕ). FailsAfter P b.before line w) fronts.1 (subst (λ (before : List (List ℕ)). FailsAfter P before a.line w) fronts.0 a.fails)) b.fails)
+            let fronts : (a.before ≡ b.before) × (a.line ≡ b.line) = same_last a.before b.before a.line b.line is in (
+              a.count ∙ (ap (λ (lines : List (List ℕ)). length lines + 1) fronts.0 ∙ sym b.count),
+              same_reason P checked b.before b.line w v
+                  (subst (λ (line : List ℕ). FailsAfter P b.before line w) fronts.1 (subst (λ (before : List (List ℕ)). FailsAfter P before a.line w) fronts.0 a.fails)) b.fails,
+            )
 
         by_lines : Compared (a.before ++ a.line ∷ []) (b.before ++ b.line ∷ []) a.rest b.rest → (n ≡ m) × (w ≡ v)
         by_lines (longer [] lines rest) = same (sym (lines ∙ append-nil (a.before ++ a.line ∷ [])))

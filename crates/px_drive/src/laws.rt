@@ -3,12 +3,12 @@
 
 ghost use Rattle.px_drive.specs.Laws.{OneSource, OneSourceFault, NeverBoth, ScopeFaultIsFirst, NeverRejected, OneRejection, AcceptedIsTrue, UsageByWords, DoneOrUsage, EndsAreNamed, SourceIsFaulty, FaultyIsSource, DoneIsChecked, DoneIsReplayed, RejectedIsRefused, TooLongIsLonger, LongIsTooLong, LongIsNotReplayed, RefusalsPrintNothing};
 
+use px_derive::one_row;
 use px_descent::{one_first_stuck, stuck_excludes_descent};
 use px_lexer::one_list;
 use px_parser::{one_tree, trees_are_fine};
-use px_scope::{each_name_is_listed, fault_is_first, names_rise, numberings_fit, one_numbering};
-use px_derive::one_row;
 use px_replay::{ends_are_derivations, one_state, partials_begin};
+use px_scope::{each_name_is_listed, fault_is_first, names_rise, numberings_fit, one_numbering};
 use px_soundness::derivations_are_sound;
 use px_types::{never_typed_and_broken, one_first_fault, one_program, programs_are_typed};
 
