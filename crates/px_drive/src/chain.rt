@@ -1,3 +1,4 @@
+//! A command as a chain of stages: reads its texts, does its work, prints its answer. The first stage that refuses ends it.
 ghost use Rattle.std.specs.Prelude.{◌≤◌, All, IsTrue};
 ghost use Rattle.px_drive.specs.Lines.{files_of};
 ghost use Rattle.px_drive.specs.Ends.{Runs, end_of};

@@ -1,3 +1,4 @@
+//! The top call: the words, the command that they are, and the one line of a refusal.
 ghost use Rattle.std.specs.Prelude.{◌≡◌, ◌≤◌, ◌⊎◌, map, string_bytes, All, IsTrue};
 ghost use Rattle.std.specs.Option.{ForSome};
 ghost use Rattle.px_world.specs.Faults.{Rose};

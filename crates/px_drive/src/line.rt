@@ -1,3 +1,4 @@
+//! Which command the words of a command line are.
 ghost use Rattle.std.specs.Prelude.{◌≡◌, map, string_bytes, IfOk};
 ghost use Rattle.px_drive.specs.Lines.{line_of, check_line, replay_line, is_file, ReadsLine};
 

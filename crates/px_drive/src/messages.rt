@@ -1,3 +1,4 @@
+//! What is printed: the answer of a command that is done, or the one line of its refusal; and the number that the program ends with.
 ghost use Rattle.std.specs.Prelude.{◌≡◌, ◌≤◌, ◌++◌, codes};
 ghost use Rattle.std.specs.Fmt.{decimal};
 ghost use Rattle.px_drive.specs.Messages.{checked_line, accepted_line, scope_words, type_words, why_words, source_line, rejected_line, message_of, status_of, bytes_of_all};

@@ -1,3 +1,4 @@
+//! What a command is, and how it ends.
 use px_replay::Why;
 use px_scope::ScopeKind;
 use px_terms::Text;
@@ -33,7 +34,9 @@ pub enum SourceFault {
 /// A text that a command reads.
 #[derive(Clone, Copy, Debug, PartialEq, Eq)]
 pub enum Which {
+    /// The program's text, the first word after the command.
     Program,
+    /// The derivation's text, the second word after `replay`.
     Derivation,
 }
 
@@ -46,8 +49,9 @@ pub enum End {
     Usage,
     /// The program's text was refused.
     Source(SourceFault),
-    /// The derivation's text was refused: the line of this number, from 1, is the first with which no derivation of the
-    /// program begins, and this is what is wrong with it.
+    /// The derivation's text was refused: the line of this number, from 1, is the first with which the lines are no partial
+    /// derivation of the program any more, or has no line feed, or is the one behind the last, where lines are missing; and
+    /// this is what is wrong with it.
     Rejected { line: u64, why: Why },
     /// Opening or reading a text failed. The files' count of faults rose.
     ReadFault,
@@ -63,6 +67,8 @@ pub enum End {
 /// and where memory ran out while they were read.
 #[derive(Drop)]
 pub struct Outcome {
+    /// The line that the words are.
     pub line: Option<CommandLine>,
+    /// How the command ended.
     pub end: End,
 }

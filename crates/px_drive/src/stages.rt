@@ -1,3 +1,4 @@
+//! The stages of the commands: a text that is read, a program that is made of it, a derivation that is replayed.
 ghost use Rattle.std.specs.Prelude.{◌≤◌, ◌≡◌, [], length, IsTrue};
 ghost use Rattle.px_terms.specs.limits.TheConstants.{PROGRAM_BYTES as PROGRAM_LIMIT, DERIVATION_BYTES as DERIVATION_LIMIT};
 ghost use Rattle.px_replay.specs.Standings.{StandsFor};
@@ -65,7 +66,8 @@ pub(crate) fn read_source(alloc: Global, bytes: &Bytes) -> Result<Checked, End>
 }
 
 /// Replays the derivation of the program in the bytes, line by line, and answers the number of its obligations. The first line
-/// with which no derivation begins is refused, or what stands behind the last line feed, and nothing after it is looked at.
+/// with which the lines are no partial derivation any more is refused, or what stands behind the last line feed, and nothing
+/// after it is looked at.
 pub(crate) fn accept(alloc: Global, checked: &Checked, bytes: &Bytes) -> Result<u32, End>
     requires { length bytes.now ≤ DERIVATION_LIMIT }
     ensures { Accepts checked.now bytes.now result }
