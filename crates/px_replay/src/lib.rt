@@ -21,5 +21,5 @@ mod rows;
 mod steps;
 
 pub use ends::{Accepted, FeedEnd, Why};
-pub use laws::{ends_are_derivations, one_state, partials_begin};
+pub use laws::{ends_are_derivations, one_state, partials_are_trees, partials_begin};
 pub use replays::Replay;
