@@ -150,14 +150,15 @@ module _ (stack_is_tree : EachStackIsTree) where
   -- what is not finished leads on
   unfinished_leads : (P : Program) (n : ℕ) (last : List Row) → IsUnfinished P n last → AllByRecursion (IsSpellable P.names) last → (state : State) × Lead P (record { next = n; stack = [] }) (map (line_of P.names) last) state
   unfinished_leads P n [] nothing spellable = (record { next = n; stack = [] }, stays)
-  unfinished_leads P n (_ ∷ rows) (left_open {clause = clause} {on = on} {top = top} {below = below} obligation variables leads) spellable =
-      (record { next = n + 1; stack = top ∷ below },
-      goes_on (record {
-        row = row.Header n on;
-        spellable = spellable.0;
-        spelled = refl;
-        moves = record { own = clause; on = on; header = refl; obligation = obligation; variables = variables; is = refl };
-      }) (row_lines stack_is_tree P n (begins_with clause on ∷ []) (top ∷ below) rows leads spellable.1))
+  unfinished_leads P n (_ ∷ rows) (left_open {clause = clause} {on = on} {top = top} {below = below} obligation variables leads) spellable = (
+    record { next = n + 1; stack = top ∷ below },
+    goes_on (record {
+      row = row.Header n on;
+      spellable = spellable.0;
+      spelled = refl;
+      moves = record { own = clause; on = on; header = refl; obligation = obligation; variables = variables; is = refl };
+    }) (row_lines stack_is_tree P n (begins_with clause on ∷ []) (top ∷ below) rows leads spellable.1),
+  )
 
   partial : (P : Program) (lines : List (List ℕ)) → BeginFrom P 0 lines → IsPartial P lines
   partial P lines text =
