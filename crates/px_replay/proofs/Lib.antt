@@ -4,6 +4,7 @@ pub mod Results
 pub mod StackLemmas
 pub mod Leading
 pub mod Trees
+pub mod Begun
 pub mod Openings
 pub mod StepLemmas
 pub mod InstanceLemmas

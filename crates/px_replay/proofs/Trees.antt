@@ -33,20 +33,20 @@ record Closes (P : Program) (n : ℕ) (stack : List Sequent) (lines : List (List
   rest : Rest P n later
   are : lines ≡ map (line_of P.names) rows ++ later
 
-all_by-append : {X : Type 0} (Q : X → Type 0) (xs ys : List X) → AllByRecursion Q xs → AllByRecursion Q ys → AllByRecursion Q (xs ++ ys)
+pub all_by-append : {X : Type 0} (Q : X → Type 0) (xs ys : List X) → AllByRecursion Q xs → AllByRecursion Q ys → AllByRecursion Q (xs ++ ys)
 all_by-append Q [] ys a b = b
 all_by-append Q (x ∷ xs) ys a b = (a.0, all_by-append Q xs ys a.1 b)
 
-all_by-front : {X : Type 0} (Q : X → Type 0) (xs ys : List X) → AllByRecursion Q (xs ++ ys) → AllByRecursion Q xs
+pub all_by-front : {X : Type 0} (Q : X → Type 0) (xs ys : List X) → AllByRecursion Q (xs ++ ys) → AllByRecursion Q xs
 all_by-front Q [] ys a = tt
 all_by-front Q (x ∷ xs) ys a = (a.0, all_by-front Q xs ys a.1)
 
-all_by-back : {X : Type 0} (Q : X → Type 0) (xs ys : List X) → AllByRecursion Q (xs ++ ys) → AllByRecursion Q ys
+pub all_by-back : {X : Type 0} (Q : X → Type 0) (xs ys : List X) → AllByRecursion Q (xs ++ ys) → AllByRecursion Q ys
 all_by-back Q [] ys a = a
 all_by-back Q (x ∷ xs) ys a = all_by-back Q xs ys a.1
 
 -- the number before the next one
-before : (n : ℕ) → (n + 1) - 1 ≡ n
+pub before : (n : ℕ) → (n + 1) - 1 ≡ n
 before n = omega arith
 
 no_more : (P : Program) (n : ℕ) → n ≡ length P.declared → Rest P n []
@@ -61,7 +61,7 @@ no_more P n all = record {
 nothing_open : (P : Program) (n : ℕ) (lines : List (List ℕ)) → Rest P n lines → Closes P n [] lines
 nothing_open P n lines rest = record { rows = []; leads = derivations.stays; spellable = tt; later = lines; rest = rest; are = refl }
 
-each_cons : (P : Program) (n : ℕ) (tree : Tree) (trees : List Tree) → DerivesObligation P n tree → ((i : ℕ) (t : Tree) → slice_get trees i ≡ Some t → DerivesObligation P ((n + 1) + i) t) →
+pub each_cons : (P : Program) (n : ℕ) (tree : Tree) (trees : List Tree) → DerivesObligation P n tree → ((i : ℕ) (t : Tree) → slice_get trees i ≡ Some t → DerivesObligation P ((n + 1) + i) t) →
     (i : ℕ) (t : Tree) → slice_get (tree ∷ trees) i ≡ Some t → DerivesObligation P (n + i) t
 each_cons P n tree trees first each zero t found = let e : Some tree ≡ Some t = found in let one : tree ≡ t = cc in subst (DerivesObligation P (n + 0)) one (subst (λ (k : ℕ). DerivesObligation P k tree) (sym (add-zero n)) first)
 each_cons P n tree trees first each (suc i) t found = let e : (n + 1) + i ≡ n + suc i = omega arith in subst (λ (k : ℕ). DerivesObligation P k t) e (each i t found)
@@ -107,7 +107,7 @@ module _ (stack_is_tree : EachStackIsTree) where
   closes P old new (l ∷ lines) (goes_on {now = now} first rest) is =
       subst (λ (line : List ℕ). Closes P old.next old.stack (line ∷ lines)) (sym first.spelled) (one_more P old.next old.stack first.row now lines first.spellable first.moves (closes P now new lines rest is))
 
-  no_rows : (P : Program) (n : ℕ) (rows : List Row) → derivations.Leads P n [] rows [] → rows ≡ []
+  pub no_rows : (P : Program) (n : ℕ) (rows : List Row) → derivations.Leads P n [] rows [] → rows ≡ []
   no_rows P n [] leads = refl
   no_rows P n (r ∷ rows) leads = elim leads [ ]
 
@@ -127,7 +127,7 @@ module _ (stack_is_tree : EachStackIsTree) where
       }
 
   -- rows that lead from a stack to another are lines that do
-  row_lines : (P : Program) (n : ℕ) (stack after : List Sequent) (rows : List Row) → derivations.Leads P n stack rows after → AllByRecursion (IsSpellable P.names) rows →
+  pub row_lines : (P : Program) (n : ℕ) (stack after : List Sequent) (rows : List Row) → derivations.Leads P n stack rows after → AllByRecursion (IsSpellable P.names) rows →
       Lead P (record { next = n + 1; stack = stack }) (map (line_of P.names) rows) (record { next = n + 1; stack = after })
   row_lines P n stack after [] derivations.stays spellable = stays
   row_lines P n [] after (r ∷ rows) leads spellable = elim leads [ ]
@@ -140,7 +140,7 @@ module _ (stack_is_tree : EachStackIsTree) where
       }) (row_lines P n (children ++ below) after rows rest spellable.1)
 
   -- the lines of trees lead from their first obligation past the last
-  tree_lines : (P : Program) (n : ℕ) (trees : List Tree) → ((i : ℕ) (tree : Tree) → slice_get trees i ≡ Some tree → DerivesObligation P (n + i) tree) → AllByRecursion (IsSpellable P.names) (rows_from n trees) →
+  pub tree_lines : (P : Program) (n : ℕ) (trees : List Tree) → ((i : ℕ) (tree : Tree) → slice_get trees i ≡ Some tree → DerivesObligation P (n + i) tree) → AllByRecursion (IsSpellable P.names) (rows_from n trees) →
       Lead P (record { next = n; stack = [] }) (map (line_of P.names) (rows_from n trees)) (record { next = n + length trees; stack = [] })
   tree_lines P n [] each spellable = subst (λ (k : ℕ). Lead P (record { next = n; stack = [] }) [] (record { next = k; stack = [] })) (sym (add-zero n)) stays
   tree_lines P n (tree ∷ trees) each spellable =

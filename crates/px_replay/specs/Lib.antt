@@ -1,4 +1,5 @@
 pub mod States
+pub mod Beginnings
 pub mod Refusals
 pub mod Ends
 pub mod Standings

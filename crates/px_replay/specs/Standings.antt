@@ -38,7 +38,7 @@ pub record StandsFor (r : Standing) (lines : List (List ℕ)) : Type 0 where
   pub none : r.refusal ≡ None
 
 -- after these lines one more was fed: the replay stands for all of them, or the line has its number, is refused for its first
--- reason, and they begin no derivation
+-- reason, and with it they are no partial derivation
 abbrev pub Fed : List (List ℕ) → List ℕ → Standing → Result (Unit {0}) FeedEnd → Type 0
 Fed lines line new (Ok _) = StandsFor new (lines ++ line ∷ [])
 Fed lines line new (Err (ends.Rejected n w)) = (n ≡ length lines + 1) × FailsAfter new.program lines line w × ¬ IsPartial new.program (lines ++ line ∷ [])

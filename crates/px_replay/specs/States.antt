@@ -59,7 +59,8 @@ pub data Lead (P : Program) : State → List (List ℕ) → State → Type 0 whe
   goes_on : {old now new : State} {line : List ℕ} {lines : List (List ℕ)} → LineMoves P old line now → Lead P now lines new →
       Lead P old (line ∷ lines) new
 
--- The lines are the text of a partial derivation: trees of the first obligations, and then maybe the first rows of one more.
+-- The lines are the text of a partial derivation: they lead somewhere. In trees: those of the first obligations, and then maybe
+-- the header and the first rows of one more (`Beginnings`); nobody says that it can be completed.
 pub record IsPartial (P : Program) (lines : List (List ℕ)) : Type 0 where
   pub state : State
   pub leads : Lead P start lines state

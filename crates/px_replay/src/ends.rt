@@ -15,7 +15,7 @@ use std::alloc::AllocError;
 /// What is wrong with a line. Where several are, the first in this order is said.
 #[derive(Clone, Copy, Debug, PartialEq, Eq)]
 pub enum Why {
-    /// It is not the line of any row or header.
+    /// It is not the line of any row or header; the caller says so too of a line without its line feed.
     Form,
     /// A header stands where a row is due, a row where none is, a header with another number than the next obligation's,
     /// or anything after the last tree.
@@ -36,9 +36,10 @@ pub enum FeedEnd {
     NoMemory,
 }
 
-/// A derivation was accepted, of so many obligations.
+/// A derivation was accepted.
 #[derive(Clone, Copy, Debug, PartialEq, Eq)]
 pub struct Accepted {
+    /// How many obligations it derives: all that the program declares.
     pub obligations: u32,
 }
 

@@ -1,5 +1,5 @@
 //! What is said of replays, as functions whose contracts are these laws.
-ghost use Rattle.px_replay.specs.Laws.{EndsAreDerivations, OneState, PartialsBegin};
+ghost use Rattle.px_replay.specs.Laws.{EndsAreDerivations, OneState, PartialsAreTrees, PartialsBegin};
 
 use px_derive::one_row;
 use px_soundness::{one_clause, one_opening, stack_is_tree};
@@ -24,3 +24,11 @@ pub fn ends_are_derivations()
 pub fn partials_begin()
     ensures { PartialsBegin }
 {}
+
+/// Lines are a partial derivation exactly where they are those of trees of the first obligations, in order, and then maybe of
+/// the header and the first rows of one more.
+pub fn partials_are_trees()
+    ensures { PartialsAreTrees }
+{
+    stack_is_tree();
+}

@@ -80,7 +80,7 @@ fn hypothesis(
 {
     let _checked = all.checked();
     let Some(own) = all.clause(number) else {
-        return Err(RowEnd::NoRule);
+        unreachable!()
     };
     if !is_guarded(&top.sequent, &sigma) {
         return Err(RowEnd::NoRule);
@@ -114,7 +114,7 @@ fn note(
     ensures only { (children : List AnySequent) → Opens all.now number top.sequent (rows.Note reference sigma.now) children → IsOkUnless result RowEnd.NoMemory }
 {
     let Some(_own) = all.clause(number) else {
-        return Err(RowEnd::NoRule);
+        unreachable!()
     };
     let Some(found) = available(alloc, all, number, &reference)? else {
         return Err(RowEnd::NoRule);

@@ -60,9 +60,10 @@ impl<'a> Replay<'a> {
         })
     }
 
-    /// Takes the next line, without its line feed. Where the lines so far and this one begin a derivation's text, the replay
-    /// stands for them; else the line is rejected with its number and what is wrong first, or no memory was left. After a
-    /// refusal the same refusal is the answer from then on. Each line costs what it touches.
+    /// Takes the next line, without its line feed. Where the lines so far and this one are a partial derivation (trees of the
+    /// first obligations, and then maybe the header and the first rows of one more; nobody says that it can be completed), the
+    /// replay stands for them; else the line is rejected with its number and what is wrong first, or no memory was left. After
+    /// a refusal the same refusal is the answer from then on. At most 2^63 lines may be fed.
     pub fn feed(&mut self, line: &[u8]) -> Result<(), FeedEnd>
         requires { self.old.fed < 2 ^ 63 }
         ensures stands { (lines : List (List ℕ)) → StandsFor self.old lines → Fed lines line.now self.new result }

@@ -134,8 +134,9 @@ fn inject_children(
     Ok(single(alloc, child)?)
 }
 
-/// What the row leaves of the open sequent in the obligation of this number, in order. A row of one child moves the sequent;
-/// it is copied only for a second child.
+/// What the row leaves of the open sequent in the obligation of this number, in order. A step and an injection move the sequent;
+/// a note moves it into the child of its last alternative and a split into its last child, and both copy it for the others; the
+/// cases of a variable are each written anew.
 pub(crate) fn row_children(
     alloc: Global,
     all: &Obligations,
