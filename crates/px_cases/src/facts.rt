@@ -56,13 +56,15 @@ fn with_fields(alloc: Global, sequent: Sequent, sides: &Equation) -> Result<Sequ
 
 /// The fields of two terms that are one constructor.
 #[derive(Clone, Copy)]
-struct Fields<'a> {
-    fields: &'a Items<Term>,
-    parts: &'a Items<Term>,
+pub struct SideFields<'a> {
+    /// The fields of the one.
+    pub fields: &'a Items<Term>,
+    /// The fields of the other.
+    pub parts: &'a Items<Term>,
 }
 
 /// The fields of both terms; None exactly where they are not one constructor. It takes no memory.
-fn one_head<'a>(left: &'a Term, right: &'a Term) -> Option<Fields<'a>>
+pub fn one_head<'a>(left: &'a Term, right: &'a Term) -> Option<SideFields<'a>>
     ensures { MatchOption result ((fields : List Tree) (parts : List Tree) → ¬ HaveOneHead left.now right.now fields parts) (λ heads. HaveOneHead left.now right.now heads.fields.now heads.parts.now) }
 {
     let Term::Con {
@@ -86,7 +88,7 @@ fn one_head<'a>(left: &'a Term, right: &'a Term) -> Option<Fields<'a>>
     if *datatype != *other_datatype || *con != *other_con {
         return None;
     }
-    Some(Fields { fields, parts })
+    Some(SideFields { fields, parts })
 }
 
 /// The sequent with the terms in pairs, as new last facts. It takes memory, and fails only where there is none.

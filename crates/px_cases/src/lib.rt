@@ -20,6 +20,7 @@ mod splits;
 mod variables;
 
 pub use ends::{NoSuchFact, SplitEnd};
-pub use facts::{clashes, inject};
+pub use facts::{SideFields, clashes, inject, one_head};
+pub use small::{is_small, is_within_limits};
 pub use splits::split_term;
 pub use variables::split_variable;

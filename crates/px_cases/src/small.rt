@@ -10,8 +10,8 @@ use px_terms::{
     Equation, Present, Sequent, Term, Ty, depth, instance_is_within, size, ty_is_within,
 };
 
-/// Whether the term is within the limits of a sequent.
-fn is_small(term: &Term) -> bool
+/// Whether the term is within the limits of a sequent. It takes no memory.
+pub fn is_small(term: &Term) -> bool
     ensures { IsTrue result ↔ IsSmall term.now }
 {
     size(term) <= SEQUENT_NODES && depth(term) <= SEQUENT_DEPTH
@@ -88,8 +88,8 @@ fn are_small_present(entries: &[Present]) -> bool
     true
 }
 
-/// Whether the sequent is within the limits.
-pub(crate) fn is_within_limits(sequent: &Sequent) -> bool
+/// Whether the sequent is within the limits. It takes no memory.
+pub fn is_within_limits(sequent: &Sequent) -> bool
     ensures { IsTrue result ↔ IsWithinLimits sequent.now }
 {
     sequent.next <= VARIABLES

@@ -2,5 +2,6 @@ pub mod FieldLemmas
 pub mod Opened
 pub mod PartSizes
 pub mod Results
+pub mod Shallow
 pub mod StepLemmas
 pub mod TurnLemmas

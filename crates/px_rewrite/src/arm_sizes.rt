@@ -11,7 +11,7 @@ use px_terms::{Fun, Program, Term, size, size_of_tys};
 
 /// The nodes of the arm with these fields put in for the pattern variables of its constructor, or 2^64 - 1 where it has more: of
 /// what `open_arm` makes of it, which is not made. It takes no memory; its calls nest as deep as the terms.
-pub(crate) fn size_of_arm(program: &Program, fields: &[Term], arm: &Term) -> u64
+pub fn size_of_arm(program: &Program, fields: &[Term], arm: &Term) -> u64
     ensures { result ≡ min (term_size (with_fields program.now fields.now arm.now)) (2 ^ 64 - 1) }
 {
     let opening = Opening {

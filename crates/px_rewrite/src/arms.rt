@@ -1,6 +1,6 @@
 //! The arm of a match with the fields of its constructor put in.
 
-ghost use Rattle.std.specs.Prelude.{◌≡◌, ℕ, IfOk};
+ghost use Rattle.std.specs.Prelude.{◌≡◌, ℕ, IfOk, []};
 ghost use Rattle.px_terms.specs.Steps.{with_fields};
 ghost use Rattle.px_rewrite.specs.Opening.{AreAround, opened_in, opened_parts_in, opened_arms_in};
 
@@ -12,7 +12,7 @@ use std::alloc::Global;
 /// The arm with these fields put in for the pattern variables of its constructor, the last field for the innermost one. None of
 /// the fields has a loose pattern variable. It takes memory, and fails only where there is none; its calls nest as deep as
 /// the terms.
-pub(crate) fn open_arm(
+pub fn open_arm(
     alloc: Global,
     program: &Program,
     fields: &[Term],
@@ -75,7 +75,7 @@ fn open_part(alloc: Global, t: &Term, opening: &Opening) -> Result<Term, NoMemor
 fn open_parts(alloc: Global, parts: &[Term], opening: &Opening) -> Result<Items<Term>, NoMemory>
     ensures { (n : ℕ) → AreAround opening.now n → IfOk result (λ r. r ≡ opened_parts_in opening.now parts.now n) }
 {
-    let mut done = Items::new(alloc);
+    let mut done = room_for(alloc, parts.len())?;
     for part in parts {
         done.push(open_part(alloc, part, opening)?)?;
     }
@@ -92,10 +92,17 @@ fn open_arms(
 ) -> Result<Items<Term>, NoMemory>
     ensures { (n : ℕ) → AreAround opening.now n → IfOk result (λ r. r ≡ opened_arms_in opening.now datatype arms.now n) }
 {
-    let mut done = Items::new(alloc);
+    let mut done = room_for(alloc, arms.len())?;
     for (con, arm) in arms.iter().enumerate() {
         let inside = inside_arm(opening, datatype, con);
         done.push(open_part(alloc, arm, &inside)?)?;
     }
     Ok(done)
+}
+
+/// An empty list that has room for so many terms.
+fn room_for(alloc: Global, count: usize) -> Result<Items<Term>, NoMemory>
+    ensures { IfOk result (λ items. items ≡ []) }
+{
+    Ok(Items::from_vec(Vec::with_capacity(alloc, count)?))
 }

@@ -10,7 +10,10 @@
 mod arm_sizes;
 mod arms;
 mod opening;
+mod replacing;
 mod steps;
 mod turns;
 
+pub use arm_sizes::size_of_arm;
+pub use arms::open_arm;
 pub use steps::{StepEnd, step};

@@ -1,16 +1,17 @@
 //! A step at a place of a term.
-ghost use Rattle.std.specs.Prelude.{◌≡◌, ◌↔◌, ◌-◌, ◌^◌, min, IfOk, IsOkUnless, IsTrue, MatchResult, Err};
+ghost use Rattle.std.specs.Prelude.{◌≡◌, ◌≤◌, ◌↔◌, ◌-◌, ◌^◌, min, IfOk, IsOkUnless, IsTrue, MatchResult, Err, Some};
 ghost use Rattle.px_terms.specs.declared.term.Term.{Term as Tree};
-ghost use Rattle.px_terms.specs.limits.TheConstants.{SEQUENT_NODES};
-ghost use Rattle.px_terms.specs.Terms.{term_size};
+ghost use Rattle.px_terms.specs.limits.TheConstants.{SEQUENT_DEPTH, SEQUENT_NODES};
+ghost use Rattle.px_terms.specs.Terms.{subterm, term_depth, term_size};
 ghost use Rattle.px_terms.specs.Sequents.{IsSmall};
 ghost use Rattle.px_terms.specs.Steps.{Step};
 ghost use Rattle.px_rewrite.specs.declared.steps.StepEnd.TheVariants as ends;
 
+use crate::replacing::put_at;
 use crate::turns::turned;
 use px_descent::Checked;
 use px_terms::limits::{SEQUENT_DEPTH, SEQUENT_NODES};
-use px_terms::{Equation, Kind, NoMemory, Path, Program, Term, at_path, depth, replace_at, size};
+use px_terms::{Equation, Kind, NoMemory, Path, Program, Term, at_path, depth, size};
 use std::alloc::{AllocError, Global};
 
 /// Why there is no step.
@@ -42,8 +43,8 @@ impl From<AllocError> for StepEnd {
 /// the term has no such place; no such call, match, comparison or side of a fact stands there; or the result would have
 /// more than SEQUENT_NODES nodes or more than SEQUENT_DEPTH levels. The facts are looked at in place.
 ///
-/// It takes memory for the part and for the result, whose size is known before, and where a call is unfolded for a copy of its
-/// arguments; its calls nest as deep as the terms.
+/// It takes memory for the result, whose size is known before, and where a call is unfolded for a copy of its arguments; its calls
+/// nest as deep as the terms.
 pub fn step(
     alloc: Global,
     checked: &Checked,
@@ -75,8 +76,9 @@ fn stepped(
     let Some(part) = at_path(term, path) else {
         return Err(StepEnd::NoStep);
     };
-    let becomes = turned(alloc, program, facts, part, kind, room_in(term, part))?;
-    let Some(whole) = replace_at(alloc, term, path, &becomes)? else {
+    let room = room_in(term, path, part);
+    let becomes = turned(alloc, program, facts, part, kind, room)?;
+    let Some(whole) = put_at(alloc, term, path, becomes)? else {
         return Err(StepEnd::NoStep);
     };
     if !is_small(&whole) {
@@ -85,16 +87,30 @@ fn stepped(
     Ok(whole)
 }
 
-/// How many nodes may stand in place of the part, so that the term stays within the limits.
-fn room_in(term: &Term, part: &Term) -> u64
-    ensures { result ≡ SEQUENT_NODES - (min (term_size term.now) (2 ^ 64 - 1) - min (term_size part.now) (2 ^ 64 - 1)) }
+/// How many nodes may stand in place of the part at this place, so that the term stays within the limits. In place of the whole
+/// term as many may stand as a term may have, and nothing is counted.
+fn room_in(term: &Term, path: &Path, part: &Term) -> u64
+    ensures { subterm term.now path.now ≡ Some part.now → result ≡ SEQUENT_NODES - (min (term_size term.now) (2 ^ 64 - 1) - min (term_size part.now) (2 ^ 64 - 1)) }
 {
+    if path.as_slice().is_empty() {
+        return SEQUENT_NODES;
+    }
     SEQUENT_NODES.saturating_sub(size(term).saturating_sub(size(part)))
 }
 
-/// The term is within the limits of a sequent.
+/// The term is within the limits of a sequent. No term is deeper than it has nodes, so that the levels of a small one are not
+/// counted.
 fn is_small(term: &Term) -> bool
     ensures { IsTrue result ↔ IsSmall term.now }
 {
-    size(term) <= SEQUENT_NODES && depth(term) <= SEQUENT_DEPTH
+    let nodes = size(term);
+    nodes <= SEQUENT_NODES && is_shallow(term, nodes)
+}
+
+/// The term, which has so many nodes, is no deeper than a term of a sequent may be.
+fn is_shallow(term: &Term, nodes: u64) -> bool
+    requires { nodes ≡ min (term_size term.now) (2 ^ 64 - 1) }
+    ensures { IsTrue result ↔ (term_depth term.now ≤ SEQUENT_DEPTH) }
+{
+    nodes <= u64::from(SEQUENT_DEPTH) || depth(term) <= SEQUENT_DEPTH
 }

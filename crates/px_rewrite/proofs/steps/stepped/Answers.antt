@@ -6,7 +6,7 @@ use Rattle.px_rewrite.proofs.steps.stepped.Goals as goal
 
 pub returns-in_err-becomes-clause-only : goal.returns-in_err-becomes-clause-only
 returns-in_err-becomes-clause-only c = λ t one.
-    let here = steps_at c.args.program.now c.args.facts.now c.args.term.now c.args.path.now c.args.kind c.in-Some.part.now c.room_in.result t (sym c.in-Some.ensures) c.room_in.ensures one in
+    let here = steps_at c.args.program.now c.args.facts.now c.args.term.now c.args.path.now c.args.kind c.in-Some.part.now c.room_in-room.result t (sym c.in-Some.ensures) (c.room_in-room.ensures (sym c.in-Some.ensures)) one in
     let why = c.in_err-becomes.ensures.only here.becomes here.turns here.nodes in
     still_ends c.from_residual.result _ _ c.from_residual.ensures (λ e same. same ∙ why)
 
