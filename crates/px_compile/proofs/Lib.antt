@@ -1,0 +1,7 @@
+mod CodeSteps
+mod Laid
+mod Pushing
+mod Simulation
+mod Standing
+mod Steps
+mod Typed

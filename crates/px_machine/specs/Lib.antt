@@ -1,0 +1,10 @@
+pub mod Cells
+pub mod ValueText
+pub mod PrintLevels
+pub mod Machine
+pub mod Standing
+pub mod Examples
+pub mod Laws
+pub mod Heap
+pub mod Running
+pub mod Transfer
