@@ -1,0 +1,12 @@
+pub mod Rooms
+pub mod Deeds
+pub mod Norms
+pub mod Moves
+pub mod Settling
+pub mod Uses
+pub mod Closing
+pub mod Blocking
+pub mod Splitting
+pub mod Plain
+pub mod Answers
+pub mod Laws
