@@ -6,23 +6,30 @@ use Rattle.px_replay.specs.declared.ends.Why.{Why}
 use Rattle.px_world.specs.Faults.{Rose}
 use Rattle.px_world.specs.Known.{Told, IsLonger}
 use Rattle.px_drive.specs.declared.outcome.CommandLine.{CommandLine}
-use Rattle.px_drive.specs.declared.outcome.CommandLine.TheVariants.{Check, Replay}
+use Rattle.px_drive.specs.declared.outcome.CommandLine.TheVariants.{Check, Replay, Eval}
 use Rattle.px_drive.specs.declared.outcome.Which.TheVariants.{Program, Derivation}
 use Rattle.px_drive.specs.declared.outcome.End.{End}
-use Rattle.px_drive.specs.declared.outcome.End.TheVariants.{Done, Usage, Source, Rejected, ReadFault, WriteFault, NoMemory, TooLong}
+use Rattle.px_drive.specs.declared.outcome.End.TheVariants.{Done, Usage, Source, Rejected, Spent, ReadFault, WriteFault, NoMemory, TooLong, Arguments}
 use Rattle.px_drive.specs.declared.outcome.SourceFault.{SourceFault}
 use Rattle.px_drive.specs.declared.outcome.SourceFault.TheVariants.{Lex, Parse, Scope, Typing, Descent}
 use Rattle.px_drive.specs.Lines.{line_of, program_of}
 use Rattle.px_drive.specs.Seen.{FilesSeen, SinkSeen}
 use Rattle.px_drive.specs.Ends.{limit_of, ReadsText, Accepts, Prints, AndThen, LineEnds}
-use Rattle.px_drive.specs.Messages.{checked_line, accepted_line}
-use Rattle.px_drive.specs.Sources.{IsSource, IsSourceFault, Sources}
-use Rattle.px_drive.specs.Laws.{OneSourceFault, NeverBoth, NeverRejected, UsageByWords, DoneOrUsage, EndsAreNamed, IsFaulty, SourceIsFaulty, FaultyIsSource, DoneIsChecked, DoneIsReplayed, RejectedIsRefused, TooLongIsLonger, LongIsTooLong, LongIsNotReplayed, RefusalsPrintNothing}
+use Rattle.px_drive.specs.Messages.{checked_line, accepted_line, evaluated_by}
+use Rattle.px_drive.specs.Sources.{IsSourceFault, Sources}
+use Rattle.px_drive.specs.Laws.{OneSourceFault, NeverBoth, NeverRejected, UsageByWords, DoneOrUsage, EndsAreNamed, IsFaulty, SourceIsFaulty, FaultyIsSource, DoneIsChecked, DoneIsReplayed, RejectedIsRefused, TooLongIsLonger, LongIsTooLong, LongIsNotReplayed, RefusalsPrintNothing, DoneIsEvaluated, ArgumentsAreRefused, SpentIsAbove}
+use Rattle.px_drive.specs.declared.outcome.ArgumentKind.{ArgumentKind}
+use Rattle.px_drive.proofs.EvalEnds.{EvalGoes, OwnEnd, own_end, Found, found, not_found, Exceeds, exceeds}
 
 -- what a line does after its program was read
 abbrev pub Goes : FilesSeen → SinkSeen → CommandLine → AnyProgram → End → List ℕ → Type 0
 Goes files out (Check file) program = Prints (checked_line program) out
 Goes files out (Replay file derivation) program = AndThen (ReadsText Derivation files derivation) (λ bytes. AndThen (Accepts program bytes) (λ n. Prints (accepted_line n) out))
+Goes files out (Eval file name words budget) program = EvalGoes out name words budget program
+
+-- after its program was read `eval` has its own ends alone
+goes_own : (files : FilesSeen) (out : SinkSeen) (file name : List ℕ) (words : List (List ℕ)) (budget : ℕ) (program : AnyProgram) (end : End) (printed : List ℕ) → Goes files out (Eval file name words budget) program end printed → OwnEnd out end
+goes_own files out file name words budget program end printed h = own_end out name words budget program end printed h
 
 -- each line reads its program first
 abbrev Begins : FilesSeen → SinkSeen → CommandLine → End → List ℕ → Type 0
@@ -31,6 +38,7 @@ Begins files out line end printed = AndThen (ReadsText Program files (program_of
 begins : (files : FilesSeen) (out : SinkSeen) (line : CommandLine) (end : End) (printed : List ℕ) → LineEnds files out line end printed → Begins files out line end printed
 begins files out (Check file) end printed h = h
 begins files out (Replay file derivation) end printed h = h
+begins files out (Eval file name words budget) end printed h = h
 
 -- a line doesn't end in Usage
 pub no_usage : (files : FilesSeen) (out : SinkSeen) (line : CommandLine) (printed : List ℕ) → LineEnds files out line Usage printed → ⊥
@@ -42,6 +50,9 @@ no_usage files out (Replay file derivation) printed (inr (text, _, inl (h, _))) 
 no_usage files out (Replay file derivation) printed (inr (text, _, inr (program, _, inl (h, _)))) = h
 no_usage files out (Replay file derivation) printed (inr (text, _, inr (program, _, inr (steps, _, inl (h, _))))) = h
 no_usage files out (Replay file derivation) printed (inr (text, _, inr (program, _, inr (steps, _, inr (n, _, h))))) = h
+no_usage files out (Eval file name words budget) printed (inl (h, _)) = h
+no_usage files out (Eval file name words budget) printed (inr (text, _, inl (h, _))) = h
+no_usage files out (Eval file name words budget) printed (inr (text, _, inr (program, _, h))) = goes_own files out file name words budget program Usage printed h
 
 -- `check` ends neither in Rejected, nor with a derivation that is too long
 check_is_named : (files : FilesSeen) (out : SinkSeen) (file printed : List ℕ) → ((number : ℕ) (why : Why) → LineEnds files out (Check file) (Rejected number why) printed → ⊥) × (LineEnds files out (Check file) (TooLong Derivation) printed → ⊥)
@@ -57,6 +68,57 @@ check_is_named files out file printed = (rejected, derivation)
     derivation (inr (text, _, inl (h, _))) = h
     derivation (inr (text, _, inr (program, _, h))) = h
 
+-- `check` evaluates no call
+check_asks_no_call : (files : FilesSeen) (out : SinkSeen) (file printed : List ℕ) → ((event : ℕ) → LineEnds files out (Check file) (Spent event) printed → ⊥) × ((kind : ArgumentKind) (word : ℕ) → LineEnds files out (Check file) (Arguments kind word) printed → ⊥)
+check_asks_no_call files out file printed = (spent, arguments)
+  where
+    spent : (event : ℕ) → LineEnds files out (Check file) (Spent event) printed → ⊥
+    spent event (inl (h, _)) = h
+    spent event (inr (text, _, inl (h, _))) = h
+    spent event (inr (text, _, inr (program, _, h))) = h
+
+    arguments : (kind : ArgumentKind) (word : ℕ) → LineEnds files out (Check file) (Arguments kind word) printed → ⊥
+    arguments kind word (inl (h, _)) = h
+    arguments kind word (inr (text, _, inl (h, _))) = h
+    arguments kind word (inr (text, _, inr (program, _, h))) = h
+
+-- nor does `replay`
+replay_is_named : (files : FilesSeen) (out : SinkSeen) (file derivation printed : List ℕ) → ((event : ℕ) → LineEnds files out (Replay file derivation) (Spent event) printed → ⊥) × ((kind : ArgumentKind) (word : ℕ) → LineEnds files out (Replay file derivation) (Arguments kind word) printed → ⊥)
+replay_is_named files out file derivation printed = (spent, arguments)
+  where
+    spent : (event : ℕ) → LineEnds files out (Replay file derivation) (Spent event) printed → ⊥
+    spent event (inl (h, _)) = h
+    spent event (inr (text, _, inl (h, _))) = h
+    spent event (inr (text, _, inr (program, _, inl (h, _)))) = h
+    spent event (inr (text, _, inr (program, _, inr (steps, _, inl (h, _))))) = h
+    spent event (inr (text, _, inr (program, _, inr (steps, _, inr (n, _, h))))) = h
+
+    arguments : (kind : ArgumentKind) (word : ℕ) → LineEnds files out (Replay file derivation) (Arguments kind word) printed → ⊥
+    arguments kind word (inl (h, _)) = h
+    arguments kind word (inr (text, _, inl (h, _))) = h
+    arguments kind word (inr (text, _, inr (program, _, inl (h, _)))) = h
+    arguments kind word (inr (text, _, inr (program, _, inr (steps, _, inl (h, _))))) = h
+    arguments kind word (inr (text, _, inr (program, _, inr (steps, _, inr (n, _, h))))) = h
+
+-- `eval` replays nothing
+eval_is_named : (files : FilesSeen) (out : SinkSeen) (file name : List ℕ) (words : List (List ℕ)) (budget : ℕ) (printed : List ℕ) → ((number : ℕ) (why : Why) → LineEnds files out (Eval file name words budget) (Rejected number why) printed → ⊥) × (LineEnds files out (Eval file name words budget) (TooLong Derivation) printed → ⊥) × ((event : ℕ) → LineEnds files out (Eval file name words budget) (Spent event) printed → event ≡ 0)
+eval_is_named files out file name words budget printed = (rejected, derivation, spent)
+  where
+    rejected : (number : ℕ) (why : Why) → LineEnds files out (Eval file name words budget) (Rejected number why) printed → ⊥
+    rejected number why (inl (h, _)) = h
+    rejected number why (inr (text, _, inl (h, _))) = h
+    rejected number why (inr (text, _, inr (program, _, h))) = goes_own files out file name words budget program (Rejected number why) printed h
+
+    derivation : LineEnds files out (Eval file name words budget) (TooLong Derivation) printed → ⊥
+    derivation (inl ((differ, _), _)) = let no : Derivation ≡ Program = differ in cc
+    derivation (inr (text, _, inl (h, _))) = h
+    derivation (inr (text, _, inr (program, _, h))) = goes_own files out file name words budget program (TooLong Derivation) printed h
+
+    spent : (event : ℕ) → LineEnds files out (Eval file name words budget) (Spent event) printed → event ≡ 0
+    spent event (inl (h, _)) = absurd h
+    spent event (inr (text, _, inl (h, _))) = absurd h
+    spent event (inr (text, _, inr (program, _, h))) = goes_own files out file name words budget program (Spent event) printed h
+
 pub ends_are_named : EndsAreNamed
 ends_are_named files out (Check file) Done printed h = tt
 ends_are_named files out (Check file) Usage printed h = no_usage files out (Check file) printed h
@@ -66,6 +128,8 @@ ends_are_named files out (Check file) (Source (Scope kind at)) printed h = tt
 ends_are_named files out (Check file) (Source (Typing kind at)) printed h = tt
 ends_are_named files out (Check file) (Source (Descent def call)) printed h = tt
 ends_are_named files out (Check file) (Rejected number why) printed h = (check_is_named files out file printed).0 number why h
+ends_are_named files out (Check file) (Spent event) printed h = (check_asks_no_call files out file printed).0 event h
+ends_are_named files out (Check file) (Arguments kind word) printed h = (check_asks_no_call files out file printed).1 kind word h
 ends_are_named files out (Check file) ReadFault printed h = tt
 ends_are_named files out (Check file) WriteFault printed h = tt
 ends_are_named files out (Check file) NoMemory printed h = tt
@@ -75,11 +139,24 @@ ends_are_named files out (Replay file derivation) Done printed h = tt
 ends_are_named files out (Replay file derivation) Usage printed h = no_usage files out (Replay file derivation) printed h
 ends_are_named files out (Replay file derivation) (Source fault) printed h = tt
 ends_are_named files out (Replay file derivation) (Rejected number why) printed h = tt
+ends_are_named files out (Replay file derivation) (Spent event) printed h = (replay_is_named files out file derivation printed).0 event h
+ends_are_named files out (Replay file derivation) (Arguments kind word) printed h = (replay_is_named files out file derivation printed).1 kind word h
 ends_are_named files out (Replay file derivation) ReadFault printed h = tt
 ends_are_named files out (Replay file derivation) WriteFault printed h = tt
 ends_are_named files out (Replay file derivation) NoMemory printed h = tt
 ends_are_named files out (Replay file derivation) (TooLong Program) printed h = tt
 ends_are_named files out (Replay file derivation) (TooLong Derivation) printed h = tt
+ends_are_named files out (Eval file name words budget) Done printed h = tt
+ends_are_named files out (Eval file name words budget) Usage printed h = no_usage files out (Eval file name words budget) printed h
+ends_are_named files out (Eval file name words budget) (Source fault) printed h = tt
+ends_are_named files out (Eval file name words budget) (Rejected number why) printed h = (eval_is_named files out file name words budget printed).0 number why h
+ends_are_named files out (Eval file name words budget) (Spent event) printed h = (eval_is_named files out file name words budget printed).2 event h
+ends_are_named files out (Eval file name words budget) ReadFault printed h = tt
+ends_are_named files out (Eval file name words budget) WriteFault printed h = tt
+ends_are_named files out (Eval file name words budget) NoMemory printed h = tt
+ends_are_named files out (Eval file name words budget) (TooLong Program) printed h = tt
+ends_are_named files out (Eval file name words budget) (TooLong Derivation) printed h = (eval_is_named files out file name words budget printed).1 h
+ends_are_named files out (Eval file name words budget) (Arguments kind word) printed h = tt
 
 pub usage_is_by_words : UsageByWords
 usage_is_by_words words files out None Usage h = (λ _. h.0, λ _. inl refl)
@@ -87,6 +164,8 @@ usage_is_by_words words files out None NoMemory h = (λ (e : NoMemory ≡ Usage)
 usage_is_by_words words files out None Done h = absurd h.0
 usage_is_by_words words files out None (Source fault) h = absurd h.0
 usage_is_by_words words files out None (Rejected number why) h = absurd h.0
+usage_is_by_words words files out None (Spent event) h = absurd h.0
+usage_is_by_words words files out None (Arguments kind word) h = absurd h.0
 usage_is_by_words words files out None ReadFault h = absurd h.0
 usage_is_by_words words files out None WriteFault h = absurd h.0
 usage_is_by_words words files out None (TooLong text) h = absurd h.0
@@ -122,6 +201,51 @@ done_is_replayed files out file derivation printed (inr (text, read, inr (progra
   printed_is = rw (← count) is;
 }
 
+pub done_is_evaluated : DoneIsEvaluated
+done_is_evaluated files out file name words budget printed (inl (h, _)) = absurd h
+done_is_evaluated files out file name words budget printed (inr (text, _, inl (h, _))) = absurd h
+done_is_evaluated files out file name words budget printed (inr (text, read, inr (program, source, h))) =
+    let is : Found name words budget program printed = found out name words budget program printed h in
+    record {
+      text = text;
+      program = program;
+      call = is.call;
+      value = is.value;
+      calls = is.calls;
+      text_is = read.0;
+      is_source = source;
+      is_call = is.is_call;
+      is_value = is.is_value;
+      within = is.within;
+      printed_is = is.printed_is;
+    }
+
+pub arguments_are_refused : ArgumentsAreRefused
+arguments_are_refused files out file name words budget printed kind number (inl (h, _)) = absurd h
+arguments_are_refused files out file name words budget printed kind number (inr (text, _, inl (h, _))) = absurd h
+arguments_are_refused files out file name words budget printed kind number (inr (text, read, inr (program, source, h))) =
+    record { text = text; program = program; text_is = read.0; is_source = source; is_no_call = not_found out name words budget program printed kind number h }
+
+pub spent_is_above : SpentIsAbove
+spent_is_above files out file name words budget printed event (inl (h, _)) = absurd h
+spent_is_above files out file name words budget printed event (inr (text, _, inl (h, _))) = absurd h
+spent_is_above files out file name words budget printed event (inr (text, read, inr (program, source, h))) =
+    let is : Exceeds name words budget program = exceeds out name words budget program printed event h in (
+      goes_own files out file name words budget program (Spent event) printed h,
+      record {
+        text = text;
+        program = program;
+        call = is.call;
+        value = is.value;
+        calls = is.calls;
+        text_is = read.0;
+        is_source = source;
+        is_call = is.is_call;
+        is_value = is.is_value;
+        above = is.above;
+      },
+    )
+
 pub rejected_is_refused : NeverRejected → RejectedIsRefused
 rejected_is_refused never files out file derivation printed number why (inl (h, _)) = absurd h
 rejected_is_refused never files out file derivation printed number why (inr (text, _, inl (h, _))) = absurd h
@@ -150,6 +274,7 @@ not_too_long files out (Check file) program printed h = h
 not_too_long files out (Replay file derivation) program printed (inl ((differ, _), _)) = let no : Program ≡ Derivation = differ in cc
 not_too_long files out (Replay file derivation) program printed (inr (bytes, _, inl (h, _))) = h
 not_too_long files out (Replay file derivation) program printed (inr (bytes, _, inr (n, _, h))) = h
+not_too_long files out (Eval file name words budget) program printed h = goes_own files out file name words budget program (TooLong Program) printed h
 
 program_is_longer : (files : FilesSeen) (out : SinkSeen) (line : CommandLine) (printed : List ℕ) → Begins files out line (TooLong Program) printed → IsLonger (files.bytes (program_of line)) (limit_of Program)
 program_is_longer files out line printed (inl ((_, (came, consumed, above)), _)) = longer _ _ came _ consumed above
@@ -182,6 +307,8 @@ long_ends files out line printed text Done known above (inl (h, _)) = absurd h
 long_ends files out line printed text Usage known above (inl (h, _)) = absurd h
 long_ends files out line printed text (Source fault) known above (inl (h, _)) = absurd h
 long_ends files out line printed text (Rejected number why) known above (inl (h, _)) = absurd h
+long_ends files out line printed text (Spent event) known above (inl (h, _)) = absurd h
+long_ends files out line printed text (Arguments kind word) known above (inl (h, _)) = absurd h
 long_ends files out line printed text WriteFault known above (inl (h, _)) = absurd h
 
 pub long_is_too_long : LongIsTooLong
@@ -203,6 +330,8 @@ long_is_not_replayed files out file derivation printed bytes WriteFault known ab
 long_is_not_replayed files out file derivation printed bytes WriteFault known above (inr (text, _, inr (program, _, inl (h, _)))) = absurd h
 long_is_not_replayed files out file derivation printed bytes WriteFault known above (inr (text, _, inr (program, _, inr (steps, read, rest)))) =
     absurd (not_whole (files.bytes derivation) bytes steps (limit_of Derivation) known above read.0 read.1)
+long_is_not_replayed files out file derivation printed bytes (Spent event) known above h = (replay_is_named files out file derivation printed).0 event h
+long_is_not_replayed files out file derivation printed bytes (Arguments kind word) known above h = (replay_is_named files out file derivation printed).1 kind word h
 long_is_not_replayed files out file derivation printed bytes Usage known above h = no_usage files out (Replay file derivation) printed h
 long_is_not_replayed files out file derivation printed bytes (Source fault) known above h = tt
 long_is_not_replayed files out file derivation printed bytes ReadFault known above h = tt
@@ -216,6 +345,8 @@ prints_done line out WriteFault printed h = inr refl
 prints_done line out Usage printed h = absurd h
 prints_done line out (Source fault) printed h = absurd h
 prints_done line out (Rejected number why) printed h = absurd h
+prints_done line out (Spent event) printed h = absurd h
+prints_done line out (Arguments kind word) printed h = absurd h
 prints_done line out ReadFault printed h = absurd h
 prints_done line out NoMemory printed h = absurd h
 prints_done line out (TooLong long) printed h = absurd h
@@ -233,6 +364,13 @@ refusals_print_nothing files out (Replay file derivation) printed end (inr (text
 refusals_print_nothing files out (Replay file derivation) printed end (inr (text, _, inr (program, _, inl (_, none)))) not_done not_fault = none
 refusals_print_nothing files out (Replay file derivation) printed end (inr (text, _, inr (program, _, inr (steps, _, inl (_, none))))) not_done not_fault = none
 refusals_print_nothing files out (Replay file derivation) printed end (inr (text, _, inr (program, _, inr (steps, _, inr (n, _, h))))) not_done not_fault = absurd (neither end (prints_done (accepted_line n) out end printed h) not_done not_fault)
+refusals_print_nothing files out (Eval file name words budget) printed end (inl (_, none)) not_done not_fault = none
+refusals_print_nothing files out (Eval file name words budget) printed end (inr (text, _, inl (_, none))) not_done not_fault = none
+refusals_print_nothing files out (Eval file name words budget) printed end (inr (text, _, inr (program, _, inl (_, none)))) not_done not_fault = none
+refusals_print_nothing files out (Eval file name words budget) printed end (inr (text, _, inr (program, _, inr (call, _, inl (_, none))))) not_done not_fault = none
+refusals_print_nothing files out (Eval file name words budget) printed end (inr (text, _, inr (program, _, inr (call, _, inr (done, _, inl (_, none)))))) not_done not_fault = none
+refusals_print_nothing files out (Eval file name words budget) printed end (inr (text, _, inr (program, _, inr (call, _, inr (done, _, inr (bytes, _, h)))))) not_done not_fault =
+    absurd (neither end (prints_done (evaluated_by bytes done.calls) out end printed h) not_done not_fault)
 
 -- after the program was read there is no fault of its text
 no_fault_later : (files : FilesSeen) (out : SinkSeen) (line : CommandLine) (program : AnyProgram) (fault : SourceFault) (printed : List ℕ) → Goes files out line program (Source fault) printed → ⊥
@@ -240,6 +378,7 @@ no_fault_later files out (Check file) program fault printed h = h
 no_fault_later files out (Replay file derivation) program fault printed (inl (h, _)) = h
 no_fault_later files out (Replay file derivation) program fault printed (inr (bytes, _, inl (h, _))) = h
 no_fault_later files out (Replay file derivation) program fault printed (inr (bytes, _, inr (n, _, h))) = h
+no_fault_later files out (Eval file name words budget) program fault printed h = goes_own files out file name words budget program (Source fault) printed h
 
 faulty : (files : FilesSeen) (out : SinkSeen) (line : CommandLine) (printed : List ℕ) (fault : SourceFault) → Begins files out line (Source fault) printed → IsFaulty files line fault
 faulty files out line printed fault (inl (h, _)) = absurd h
@@ -271,6 +410,8 @@ module _ (one_fault : OneSourceFault) (never_both : NeverBoth) where
   refused text fault Done is h = absurd h
   refused text fault Usage is h = absurd h
   refused text fault (Rejected number why) is h = absurd h
+  refused text fault (Spent event) is h = absurd h
+  refused text fault (Arguments kind word) is h = absurd h
   refused text fault ReadFault is h = absurd h
   refused text fault WriteFault is h = absurd h
   refused text fault (TooLong long) is h = absurd h
@@ -290,6 +431,8 @@ module _ (one_fault : OneSourceFault) (never_both : NeverBoth) where
   faulty_ends files out line printed text fault Usage known fits is (inl (h, _)) = absurd h
   faulty_ends files out line printed text fault (Source found) known fits is (inl (h, _)) = absurd h
   faulty_ends files out line printed text fault (Rejected number why) known fits is (inl (h, _)) = absurd h
+  faulty_ends files out line printed text fault (Spent event) known fits is (inl (h, _)) = absurd h
+  faulty_ends files out line printed text fault (Arguments kind word) known fits is (inl (h, _)) = absurd h
   faulty_ends files out line printed text fault WriteFault known fits is (inl (h, _)) = absurd h
 
   pub faulty_is_source : FaultyIsSource
@@ -301,6 +444,7 @@ goes_fault files out (Check file) program printed h = absurd h
 goes_fault files out (Replay file derivation) program printed (inl (reads, _)) = reads.0
 goes_fault files out (Replay file derivation) program printed (inr (bytes, _, inl (h, _))) = absurd h
 goes_fault files out (Replay file derivation) program printed (inr (bytes, _, inr (n, _, h))) = absurd h
+goes_fault files out (Eval file name words budget) program printed h = absurd (goes_own files out file name words budget program ReadFault printed h)
 
 read_fault : (files : FilesSeen) (out : SinkSeen) (line : CommandLine) (printed : List ℕ) → Begins files out line ReadFault printed → Rose files.before files.after
 read_fault files out line printed (inl (reads, _)) = reads.0
@@ -316,6 +460,7 @@ goes_unwritten files out (Check file) program printed h = h.0
 goes_unwritten files out (Replay file derivation) program printed (inl (h, _)) = absurd h
 goes_unwritten files out (Replay file derivation) program printed (inr (bytes, _, inl (h, _))) = absurd h
 goes_unwritten files out (Replay file derivation) program printed (inr (bytes, _, inr (n, _, h))) = h.0
+goes_unwritten files out (Eval file name words budget) program printed h = goes_own files out file name words budget program WriteFault printed h
 
 unwritten : (files : FilesSeen) (out : SinkSeen) (line : CommandLine) (printed : List ℕ) → Begins files out line WriteFault printed → Rose out.before out.after
 unwritten files out line printed (inl (h, _)) = absurd h

@@ -1,13 +1,14 @@
 -- The stages of a command: what a `?` passes on, and what a later stage shows of the whole call.
 use Rattle.std.proofs.Common.{◌≡◌, ◌≤◌, ℕ, List, Option, Result, Ok, Err, IsErrAnd, arith, subst, sym}
+use Rattle.px_terms.specs.declared.program.Program.{Program}
 use Rattle.px_world.specs.declared.files.Files as files
 use Rattle.px_drive.specs.declared.outcome.CommandLine.{CommandLine}
 use Rattle.px_drive.specs.declared.outcome.Which.{Which}
 use Rattle.px_drive.specs.declared.outcome.End.{End}
-use Rattle.px_drive.specs.declared.outcome.End.TheVariants.{Done, Usage, Source, Rejected, ReadFault, WriteFault, NoMemory, TooLong}
+use Rattle.px_drive.specs.declared.outcome.End.TheVariants.{Done, Usage, Source, Rejected, Spent, ReadFault, WriteFault, NoMemory, TooLong, Arguments}
 use Rattle.px_drive.specs.Lines.{ReadsLine}
 use Rattle.px_drive.specs.Seen.{FilesSeen, SinkSeen, files_seen, KeepsFiles}
-use Rattle.px_drive.specs.Ends.{ReadsText, Runs, end_of}
+use Rattle.px_drive.specs.Ends.{ReadsText, ReadsSource, Runs, end_of}
 
 -- a `?` hands an end on as it is
 pub passed_on : {files : FilesSeen} {out : SinkSeen} {line : CommandLine} (result : Result (Unit {0}) End) (end : End) → IsErrAnd result (λ e. e ≡ end) → Runs files out line end → Runs files out line (end_of result)
@@ -35,4 +36,11 @@ read_later {F} device old mid new text name result keeps reads = by_result resul
     by_result (Err Usage) is = is
     by_result (Err (Source fault)) is = is
     by_result (Err (Rejected number why)) is = is
+    by_result (Err (Spent event)) is = is
+    by_result (Err (Arguments kind word)) is = is
     by_result (Err WriteFault) is = is
+
+-- a `?` hands the refusal of a program on
+pub refused_on : {F : Type 0} (device : files.Ghosts F) (old new : F) (name : List ℕ) (result : Result Program End) (end : End) → IsErrAnd result (λ e. e ≡ end) → ReadsSource (files_seen device old new) name (Err end) → ReadsSource (files_seen device old new) name result
+refused_on device old new name (Ok program) end is h = absurd is
+refused_on device old new name (Err e) end is h = subst (λ (e : End). ReadsSource (files_seen device old new) name (Err e)) (sym is) h

@@ -1,11 +1,10 @@
 -- What the lines of a text make of a replay, one after the other, and what its end says of the text.
-use Rattle.std.proofs.Common.{◌≡◌, ◌∙◌, ℕ, ◌<◌, ◌≤◌, ◌+◌, ◌-◌, List, [], ◌∷◌, ◌++◌, length, drop, slice_range, Result, Ok, Err, IsErrAnd, refl, sym, ap, subst, arith, append_assoc, append-nil, length-append, length-drop}
+use Rattle.std.proofs.Common.{◌≡◌, ◌∙◌, ℕ, ◌≤◌, ◌+◌, List, [], ◌∷◌, ◌++◌, length, drop, slice_range, Result, Ok, Err, IsErrAnd, refl, sym, ap, subst, arith, append_assoc, append-nil, length-append, length-drop}
 use Rattle.std.specs.List.{AllByRecursion}
 use Rattle.std.proofs.lemmas.Grind.{flat_map-append}
 use Rattle.px_terms.specs.declared.program.Program.{Program}
 use Rattle.px_derive.specs.Lines.{IsLine}
 use Rattle.px_derive.specs.Lines as pieces
-use Rattle.px_replay.specs.declared.ends.Why.{Why}
 use Rattle.px_replay.specs.declared.ends.Why.TheVariants as why
 use Rattle.px_replay.specs.declared.ends.FeedEnd.{FeedEnd}
 use Rattle.px_replay.specs.declared.ends.FeedEnd.TheVariants as feeding
@@ -14,9 +13,9 @@ use Rattle.px_replay.specs.States.{IsPartial, IsDerivationText}
 use Rattle.px_replay.specs.Refusals.{FailsAfter}
 use Rattle.px_replay.specs.Standings.{Standing, StandsFor, Fed, Finished}
 use Rattle.px_drive.specs.declared.outcome.End.{End}
-use Rattle.px_drive.specs.declared.outcome.End.TheVariants.{Done, Usage, Source, Rejected, ReadFault, WriteFault, NoMemory, TooLong}
+use Rattle.px_drive.specs.declared.outcome.End.TheVariants.{Done, Usage, Source, Rejected, Spent, ReadFault, WriteFault, NoMemory, TooLong, Arguments}
 use Rattle.px_drive.specs.Refusals.{end_of_feeding}
-use Rattle.px_drive.specs.Derivations.{text_of, IsOneLine, BeginsWith, IsDerivationOf, IsRejected, refused, unended, unfinished}
+use Rattle.px_drive.specs.Derivations.{text_of, IsOneLine, BeginsWith, IsRejected, refused, unended, unfinished}
 use Rattle.px_drive.specs.Feeding.{HasFed, Feeds}
 use Rattle.px_drive.specs.Ends.{Accepts}
 
@@ -153,6 +152,8 @@ feeds_on P Q text replay (Err e) end one feeds is = subst (λ (x : End). Accepts
     by_end ReadFault h = absurd h
     by_end WriteFault h = absurd h
     by_end (TooLong long) h = absurd h
+    by_end (Spent event) h = absurd h
+    by_end (Arguments kind word) h = absurd h
 
 -- all lines were fed, and the replay was accepted
 pub accepted_from : (P Q : Program) (text : List ℕ) (replay : Standing) (found : Accepted) → Q ≡ P → (fed : HasFed Q text replay) → Finished replay.program fed.lines (Ok found) → Accepts P text (Ok found.obligations)

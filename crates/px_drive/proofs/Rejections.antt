@@ -9,7 +9,7 @@ use Rattle.px_replay.specs.declared.ends.Why.TheVariants as why
 use Rattle.px_replay.specs.States.{State, start, at_end, IsPartial, IsDerivationText}
 use Rattle.px_replay.specs.Refusals.{Fails, FailsAfter, IsDue}
 use Rattle.px_replay.specs.Laws.{OneState, EndsAreDerivations, PartialsBegin}
-use Rattle.px_drive.specs.Derivations.{text_of, IsOneLine, BeginsWith, IsDerivationOf, IsRefusedLine, IsUnended, IsUnfinished, IsRejected, refused, unended, unfinished}
+use Rattle.px_drive.specs.Derivations.{IsOneLine, BeginsWith, IsDerivationOf, IsRefusedLine, IsUnended, IsUnfinished, IsRejected, refused, unended, unfinished}
 use Rattle.px_drive.specs.Laws.{NeverRejected, OneRejection, SourceIsChecked}
 use Rattle.px_drive.proofs.Cuts.{Compared, longer, shorter, compared, ended, no_bytes, front_of, same_last}
 

@@ -1,57 +1,21 @@
 -- How `replay` ends on a told text that is a program, within its limit: a told derivation that is rejected, or too long.
-use Rattle.std.proofs.Common.{◌≡◌, ℕ, ◌<◌, ◌⊎◌, List, Some, Ok, Err, ◌∙◌, inl, inr, refl, ap, subst, sym, length}
+use Rattle.std.proofs.Common.{◌≡◌, ℕ, ◌⊎◌, List, Err, ◌∙◌, inl, inr, refl, ap, subst, sym}
 use Rattle.px_terms.specs.declared.program.Program.{Program}
 use Rattle.px_replay.specs.declared.ends.Why.{Why}
 use Rattle.px_drive.specs.declared.outcome.CommandLine.TheVariants.{Replay}
 use Rattle.px_drive.specs.declared.outcome.Which.{Which}
 use Rattle.px_drive.specs.declared.outcome.Which.TheVariants as which
 use Rattle.px_drive.specs.declared.outcome.End.{End}
-use Rattle.px_drive.specs.declared.outcome.End.TheVariants.{Done, Usage, Source, Rejected, ReadFault, WriteFault, NoMemory, TooLong}
+use Rattle.px_drive.specs.declared.outcome.End.TheVariants.{Done, Usage, Source, Rejected, Spent, ReadFault, WriteFault, NoMemory, TooLong, Arguments}
 use Rattle.px_drive.specs.Seen.{FilesSeen, SinkSeen}
 use Rattle.px_drive.specs.Messages.{accepted_line}
-use Rattle.px_drive.specs.Ends.{limit_of, ReadsText, Accepts, Prints, AndThen, LineEnds}
-use Rattle.px_drive.specs.Sources.{IsSource, Sources}
+use Rattle.px_drive.specs.Ends.{limit_of, ReadsText, Accepts, Prints, AndThen}
+use Rattle.px_drive.specs.Sources.{IsSource}
 use Rattle.px_drive.specs.Derivations.{IsRejected}
 use Rattle.px_drive.specs.Completeness.{HasText}
 use Rattle.px_drive.specs.Laws.{OneSource, NeverBoth, NeverRejected, OneRejection, RefusedIsRejected, LongDerivationIsTooLong}
-use Rattle.px_drive.proofs.Causes.{Goes, longer, told_is, not_longer, not_whole}
-
--- the end has no cause in the texts
-abbrev IsChance : End → Type 0
-IsChance end = (end ≡ ReadFault) ⊎ (end ≡ NoMemory)
-
--- a told text within its limit is not read only by a fault or for want of memory
-unread_ends : (text : Which) (files : FilesSeen) (name bytes : List ℕ) (end : End) → HasText files text name bytes → ReadsText text files name (Err end) → IsChance end
-unread_ends text files name bytes (TooLong long) has (is, (came, consumed, above)) = absurd (not_longer (files.bytes name) bytes (limit_of text) has.told has.fits (longer (files.bytes name) files.left came (limit_of text) consumed above))
-unread_ends text files name bytes ReadFault has h = inl refl
-unread_ends text files name bytes NoMemory has h = inr refl
-unread_ends text files name bytes Done has h = absurd h
-unread_ends text files name bytes Usage has h = absurd h
-unread_ends text files name bytes (Source fault) has h = absurd h
-unread_ends text files name bytes (Rejected number why) has h = absurd h
-unread_ends text files name bytes WriteFault has h = absurd h
-
--- the text of a program is refused only for want of memory
-refused_ends : NeverBoth → (text : List ℕ) (P : Program) (end : End) → IsSource text P → Sources text (Err end) → IsChance end
-refused_ends never_both text P (Source fault) source h = absurd (never_both text P fault source h)
-refused_ends never_both text P NoMemory source h = inr refl
-refused_ends never_both text P Done source h = absurd h
-refused_ends never_both text P Usage source h = absurd h
-refused_ends never_both text P (Rejected number why) source h = absurd h
-refused_ends never_both text P ReadFault source h = absurd h
-refused_ends never_both text P WriteFault source h = absurd h
-refused_ends never_both text P (TooLong long) source h = absurd h
-
-module _ (one_source : OneSource) (never_both : NeverBoth) (files : FilesSeen) (out : SinkSeen) (file derivation printed text : List ℕ) (P : Program) (end : End) (has : HasText files which.Program file text) (source : IsSource text P) where
-  here : (read : List ℕ) → ReadsText which.Program files file (Ok read) → IsSource read P
-  here read reads = subst (λ (bytes : List ℕ). IsSource bytes P) (sym (told_is (files.bytes file) text read has.told reads.0)) source
-
-  -- the program is read, and the rest is done with it
-  program_read : LineEnds files out (Replay file derivation) end printed → IsChance end ⊎ Goes files out (Replay file derivation) P end printed
-  program_read (inl (reads, _)) = inl (unread_ends which.Program files file text end has reads)
-  program_read (inr (read, reads, inl (refuses, _))) = inl (refused_ends never_both read P end (here read reads) refuses)
-  program_read (inr (read, reads, inr (found, finds, rest))) =
-      inr (subst (λ (Q : Program). Goes files out (Replay file derivation) Q end printed) (one_source read found P finds (here read reads)) rest)
+use Rattle.px_drive.proofs.Causes.{Goes, told_is, not_whole}
+use Rattle.px_drive.proofs.TextEnds.{IsChance, unread_ends, program_read}
 
 -- the one refusal of bytes that are rejected
 accepts_ends : OneRejection → (source : List ℕ) (P : Program) → IsSource source P → (bytes : List ℕ) (number : ℕ) (why : Why) (end : End) → IsRejected P bytes number why → Accepts P bytes (Err end) → (end ≡ Rejected number why) ⊎ IsChance end
@@ -65,6 +29,8 @@ accepts_ends one source P is bytes number why (Source fault) rejected h = absurd
 accepts_ends one source P is bytes number why ReadFault rejected h = absurd h
 accepts_ends one source P is bytes number why WriteFault rejected h = absurd h
 accepts_ends one source P is bytes number why (TooLong long) rejected h = absurd h
+accepts_ends one source P is bytes number why (Spent event) rejected h = absurd h
+accepts_ends one source P is bytes number why (Arguments kind word) rejected h = absurd h
 
 -- after the program was read, a told derivation that is rejected is refused for that
 rejected_ends : NeverRejected → OneRejection → (files : FilesSeen) (out : SinkSeen) (file derivation printed source steps : List ℕ) (P : Program) (number : ℕ) (why : Why) (end : End) → IsSource source P
@@ -81,7 +47,7 @@ rejected_ends never one files out file derivation printed source steps P number 
 
 pub refused_is_rejected_law : OneSource → NeverBoth → NeverRejected → OneRejection → RefusedIsRejected
 refused_is_rejected_law one_source never_both never one files out file derivation printed text steps P number why end has source has_steps rejected ends =
-    either (program_read one_source never_both files out file derivation printed text P end has source ends)
+    either (program_read one_source never_both files out (Replay file derivation) printed text P end has source ends)
   where
     either : IsChance end ⊎ Goes files out (Replay file derivation) P end printed → (end ≡ Rejected number why) ⊎ IsChance end
     either (inl chance) = inr chance
@@ -96,11 +62,13 @@ long_ends text files name Done h = absurd h
 long_ends text files name Usage h = absurd h
 long_ends text files name (Source fault) h = absurd h
 long_ends text files name (Rejected number why) h = absurd h
+long_ends text files name (Spent event) h = absurd h
+long_ends text files name (Arguments kind word) h = absurd h
 long_ends text files name WriteFault h = absurd h
 
 pub long_derivation_is_too_long_law : OneSource → NeverBoth → LongDerivationIsTooLong
 long_derivation_is_too_long_law one_source never_both files out file derivation printed text bytes P end has source known above ends =
-    either (program_read one_source never_both files out file derivation printed text P end has source ends)
+    either (program_read one_source never_both files out (Replay file derivation) printed text P end has source ends)
   where
     either : IsChance end ⊎ Goes files out (Replay file derivation) P end printed → (end ≡ TooLong which.Derivation) ⊎ IsChance end
     either (inl chance) = inr chance

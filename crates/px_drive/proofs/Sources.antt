@@ -206,16 +206,17 @@ module _ (laws : AreOne) (never : AreNeverBoth) where
     one_source_fault_law text (Typing rule at) (Descent def call) a b = absurd (no_typing_fault text b.raw b.program rule at b.is_numbered b.is_typed a)
     one_source_fault_law text (Descent def call) (Typing rule place) a b = absurd (no_typing_fault text a.raw a.program rule place a.is_numbered a.is_typed b)
 
+-- the numbered program of a text is as the check of types asks for it
+pub fits_of : parser.TreesAreFine → scope.NumberingsFit → (text : List ℕ) (raw : RawProgram) → IsNumbered text raw → IsFitting raw
+fits_of trees_are_fine numberings_fit text raw numbered =
+    let fine : parser.IsFine text numbered.surface = trees_are_fine text numbered.tokens numbered.surface numbered.are_tokens numbered.is_tree in
+    let size : length text ≤ PROGRAM_BYTES = numbered.fits in
+    numberings_fit numbered.surface raw (omega (arith, fine.fits, size)) fine.nests fine.filled numbered.is_numbering
+
 -- the program of a text is typed and descends, so it extends itself, and it is checked
 module _ (trees_are_fine : parser.TreesAreFine) (numberings_fit : scope.NumberingsFit) (typed : types.ProgramsAreTyped) where
-  fits_of : (text : List ℕ) (raw : RawProgram) → IsNumbered text raw → IsFitting raw
-  fits_of text raw numbered =
-      let fine : parser.IsFine text numbered.surface = trees_are_fine text numbered.tokens numbered.surface numbered.are_tokens numbered.is_tree in
-      let size : length text ≤ PROGRAM_BYTES = numbered.fits in
-      numberings_fit numbered.surface raw (omega (arith, fine.fits, size)) fine.nests fine.filled numbered.is_numbering
-
   founded : (text : List ℕ) (P : Program) → IsSource text P → IsWellFounded P
-  founded text P source = record { typed = typed source.raw P (fits_of text source.raw source.is_numbered) source.is_typed; descends = source.descends }
+  founded text P source = record { typed = typed source.raw P (fits_of trees_are_fine numberings_fit text source.raw source.is_numbered) source.is_typed; descends = source.descends }
 
   pub source_extends_itself_law : ExtensionsCompose → SourceExtendsItself
   source_extends_itself_law extensions text P source = extensions.itself P (founded text P source)
@@ -233,7 +234,7 @@ module _ (trees_are_fine : parser.TreesAreFine) (numberings_fit : scope.Numberin
     typed = (founded text P source).typed;
     descends = source.descends;
     lawful = lawful_names lawful text P source;
-    numbered = numbers source.raw P (fits_of text source.raw source.is_numbered) source.is_typed;
+    numbered = numbers source.raw P (fits_of trees_are_fine numberings_fit text source.raw source.is_numbered) source.is_typed;
     values = record {
       in_each = λ Q extends. record { calls = calls Q extends.founded; functions = functions Q extends.founded; terms = terms Q extends.founded };
     };

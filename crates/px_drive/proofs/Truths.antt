@@ -2,16 +2,16 @@
 use Rattle.std.proofs.Common.{◌≡◌, ℕ, ◌⊎◌, List, Option, Some, None, subst, sym, ◌∙◌, inl, inr}
 use Rattle.px_world.specs.Faults.{Rose}
 use Rattle.px_drive.specs.declared.outcome.CommandLine.{CommandLine}
-use Rattle.px_drive.specs.declared.outcome.CommandLine.TheVariants.{Check, Replay}
+use Rattle.px_drive.specs.declared.outcome.CommandLine.TheVariants.{Check, Replay, Eval}
 use Rattle.px_drive.specs.declared.outcome.End.{End}
-use Rattle.px_drive.specs.declared.outcome.End.TheVariants.{Done, Usage, Source, Rejected, ReadFault, WriteFault, NoMemory, TooLong}
+use Rattle.px_drive.specs.declared.outcome.End.TheVariants.{Done, Usage, Source, Rejected, Spent, ReadFault, WriteFault, NoMemory, TooLong, Arguments}
 use Rattle.px_drive.specs.declared.outcome.SourceFault.TheVariants.{Lex, Parse, Scope, Typing, Descent}
 use Rattle.px_drive.specs.declared.outcome.Outcome.{Outcome}
 use Rattle.px_drive.specs.Answers.{Ends, Tells, IsAnswer}
 use Rattle.px_drive.specs.Headline.{Headline, TellsFirstBroken}
 use Rattle.px_drive.specs.Laws.{AcceptedIsTrue, ScopeFaultIsFirst}
 use Rattle.px_drive.specs.Seen.{FilesSeen, SinkSeen}
-use Rattle.px_drive.proofs.Causes.{done_is_checked, done_is_replayed, source_is_faulty, read_fault_rose, write_fault_rose}
+use Rattle.px_drive.proofs.Causes.{done_is_checked, done_is_replayed, done_is_evaluated, source_is_faulty, read_fault_rose, write_fault_rose}
 
 -- an end that is no fault of writing was allowed
 allowed : (words : List (List ℕ)) (files : FilesSeen) (out err : SinkSeen) (outcome : Outcome) (end : End) → IsAnswer words files out err outcome → outcome.end ≡ end → ¬ (WriteFault ≡ end)
@@ -31,6 +31,20 @@ of_line words files out (Some (Replay file derivation)) law ends =
     let run = done_is_replayed files out file derivation ends.1.printed ends.1.allowed in
     let true_of = law run.text run.steps run.program run.is_source run.is_derivation in
     record { text = run.text; program = run.program; text_is = run.text_is; is_source = run.is_source; holds = true_of.0; itself = true_of.1 }
+of_line words files out (Some (Eval file name values budget)) law ends =
+    let run = done_is_evaluated files out file name values budget ends.1.printed ends.1.allowed in
+    record {
+      text = run.text;
+      program = run.program;
+      call = run.call;
+      value = run.value;
+      calls = run.calls;
+      text_is = run.text_is;
+      is_source = run.is_source;
+      is_call = run.is_call;
+      is_value = run.is_value;
+      within = run.within;
+    }
 
 -- where a line ends Done, its text is a program, and what was accepted is true
 pub headline : (words : List (List ℕ)) (files : FilesSeen) (out err : SinkSeen) (outcome : Outcome) → IsAnswer words files out err outcome → AcceptedIsTrue → outcome.end ≡ Done → Headline files.bytes outcome.line
@@ -48,6 +62,8 @@ broken_of_line words files out line (Source (Descent def call)) law ends = tt
 broken_of_line words files out line Done law ends = tt
 broken_of_line words files out line Usage law ends = tt
 broken_of_line words files out line (Rejected number why) law ends = tt
+broken_of_line words files out line (Spent event) law ends = tt
+broken_of_line words files out line (Arguments kind word) law ends = tt
 broken_of_line words files out line ReadFault law ends = tt
 broken_of_line words files out line WriteFault law ends = tt
 broken_of_line words files out line NoMemory law ends = tt

@@ -1,9 +1,11 @@
 -- Where a line does its work: what is enough for it to end Done.
 use Rattle.std.specs.Prelude.{◌≡◌, ◌≤◌, ◌⊎◌, ℕ, List, length, Some}
+use Rattle.px_terms.specs.declared.term.Value.{Value}
 use Rattle.px_terms.specs.declared.program.Program.{Program}
 use Rattle.px_world.specs.Faults.{Rose}
+use Rattle.px_drive.specs.declared.arguments.ClosedCall.{ClosedCall}
 use Rattle.px_drive.specs.declared.outcome.CommandLine.{CommandLine}
-use Rattle.px_drive.specs.declared.outcome.CommandLine.TheVariants.{Check, Replay}
+use Rattle.px_drive.specs.declared.outcome.CommandLine.TheVariants.{Check, Replay, Eval}
 use Rattle.px_drive.specs.declared.outcome.Which.{Which}
 use Rattle.px_drive.specs.declared.outcome.Which.TheVariants as which
 use Rattle.px_drive.specs.declared.outcome.End.{End}
@@ -13,6 +15,7 @@ use Rattle.px_drive.specs.Seen.{FilesSeen, SinkSeen}
 use Rattle.px_drive.specs.Ends.{limit_of}
 use Rattle.px_drive.specs.Sources.{IsSource}
 use Rattle.px_drive.specs.Derivations.{IsDerivationOf}
+use Rattle.px_drive.specs.Arguments.{IsCall, IsValueOfCall}
 
 -- no count of faults rose in the call
 pub record NoneRose (files : FilesSeen) (out err : SinkSeen) : Type 0 where
@@ -29,6 +32,8 @@ pub record HasText (files : FilesSeen) (which : Which) (name text : List ℕ) : 
 pub data CanBeDone (files : FilesSeen) : CommandLine → Type 0 where
   checked : {file : List ℕ} (text : List ℕ) (program : Program) → HasText files which.Program file text → IsSource text program → CanBeDone files (Check file)
   replayed : {file derivation : List ℕ} (text steps : List ℕ) (program : Program) → HasText files which.Program file text → HasText files which.Derivation derivation steps → IsSource text program → IsDerivationOf program steps → CanBeDone files (Replay file derivation)
+  evaluated : {file name : List ℕ} {words : List (List ℕ)} {budget : ℕ} (text : List ℕ) (program : Program) (call : ClosedCall) (v : Value) (calls : ℕ) → HasText files which.Program file text → IsSource text program →
+      IsCall program name words call → IsValueOfCall program call v calls → calls ≤ budget → CanBeDone files (Eval file name words budget)
 
 -- the work is done, but for want of memory
 abbrev pub IsDone : End → Type 0

@@ -2,20 +2,27 @@
 -- each earlier one answered a value, so an end comes only where its own stage has it and no earlier one refused.
 use Rattle.std.specs.Prelude.{◌≡◌, ℕ, ◌<◌, ◌≤◌, ◌⊎◌, List, [], length, take, IsTrue, ⊤, Result, Ok, Err}
 use Rattle.std.specs.Io.KnownBytes.{Appends, Consumes}
+use Rattle.px_terms.specs.declared.types.Ty.{Ty}
+use Rattle.px_terms.specs.declared.term.Value.{Value}
 use Rattle.px_terms.specs.declared.program.Program.{Program}
 use Rattle.px_terms.specs.limits.TheConstants.{PROGRAM_BYTES, DERIVATION_BYTES}
+use Rattle.px_machine.specs.declared.runs.Done.{Done as Answer}
 use Rattle.px_world.specs.Known.{Told}
 use Rattle.px_world.specs.Faults.{Rose}
 use Rattle.px_drive.specs.declared.outcome.CommandLine.{CommandLine}
-use Rattle.px_drive.specs.declared.outcome.CommandLine.TheVariants.{Check, Replay}
+use Rattle.px_drive.specs.declared.outcome.CommandLine.TheVariants.{Check, Replay, Eval}
 use Rattle.px_drive.specs.declared.outcome.Which.{Which}
 use Rattle.px_drive.specs.declared.outcome.Which.TheVariants as which
 use Rattle.px_drive.specs.declared.outcome.End.{End}
-use Rattle.px_drive.specs.declared.outcome.End.TheVariants.{Done, Source, Rejected, ReadFault, WriteFault, NoMemory, TooLong}
-use Rattle.px_drive.specs.Messages.{checked_line, accepted_line}
+use Rattle.px_drive.specs.declared.outcome.End.TheVariants.{Done, Rejected, Spent, ReadFault, WriteFault, NoMemory, TooLong, Arguments}
+use Rattle.px_drive.specs.declared.outcome.ArgumentKind.TheVariants.{BadValue}
+use Rattle.px_drive.specs.declared.arguments.ClosedCall.{ClosedCall}
+use Rattle.px_drive.specs.Messages.{checked_line, accepted_line, evaluated_by}
 use Rattle.px_drive.specs.Seen.{FilesSeen, SinkSeen}
 use Rattle.px_drive.specs.Sources.{Sources}
 use Rattle.px_drive.specs.Derivations.{IsDerivationOf, IsRejected}
+use Rattle.px_drive.specs.Arguments.{AreValuesOf, IsFirstBad, IsCall, IsNoCall, IsValueOfCall}
+use Rattle.px_machine.specs.ValueText.{value_text}
 
 -- how many bytes a text may have
 abbrev pub limit_of : Which → ℕ
@@ -37,6 +44,38 @@ Accepts program bytes (Ok n) = IsDerivationOf program bytes × (n ≡ length pro
 Accepts program bytes (Err (Rejected line why)) = IsRejected program bytes line why
 Accepts program bytes (Err NoMemory) = ⊤
 Accepts program bytes (Err _) = ⊥
+
+-- the text of a program was read, and the program that it is; or one of both was refused
+abbrev pub ReadsSource : FilesSeen → List ℕ → Result Program End → Type 0
+ReadsSource files name (Ok program) = (text : List ℕ) × ReadsText which.Program files name (Ok text) × Sources text (Ok program)
+ReadsSource files name (Err end) = ReadsText which.Program files name (Err end) ⊎ ((text : List ℕ) × ReadsText which.Program files name (Ok text) × Sources text (Err end))
+
+-- the values of these types that the words are; or the number of the first word that is none of its type
+abbrev pub ReadsValues : Program → List Ty → List (List ℕ) → Result (List Value) End → Type 0
+ReadsValues program types words (Ok values) = AreValuesOf program types words values
+ReadsValues program types words (Err (Arguments kind number)) = (kind ≡ BadValue) × IsFirstBad program types words number
+ReadsValues program types words (Err NoMemory) = ⊤
+ReadsValues program types words (Err _) = ⊥
+
+-- the call of a program that the name and the words are; or why they are none
+abbrev pub FindsCall : Program → List ℕ → List (List ℕ) → Result ClosedCall End → Type 0
+FindsCall program name words (Ok call) = IsCall program name words call
+FindsCall program name words (Err (Arguments kind number)) = IsNoCall program name words kind number
+FindsCall program name words (Err NoMemory) = ⊤
+FindsCall program name words (Err _) = ⊥
+
+-- the value of the call by its meaning, with its number of calls, which is within the budget; or that number is above it
+abbrev pub Evaluates : Program → ClosedCall → ℕ → Result Answer End → Type 0
+Evaluates program call budget (Ok done) = IsValueOfCall program call done.value done.calls × (done.calls ≤ budget)
+Evaluates program call budget (Err (Spent event)) = (event ≡ 0) × ((v : Value) × (calls : ℕ) × IsValueOfCall program call v calls × (budget < calls))
+Evaluates program call budget (Err NoMemory) = ⊤
+Evaluates program call budget (Err _) = ⊥
+
+-- the text of a value, where memory is left for it
+abbrev pub Spells : List ℕ → Result (List ℕ) End → Type 0
+Spells text (Ok bytes) = bytes ≡ text
+Spells text (Err NoMemory) = ⊤
+Spells text (Err _) = ⊥
 
 -- the last stage prints its line: whole where the work is done, and a front of it where the count of the sink rose
 abbrev pub Prints : List ℕ → SinkSeen → End → List ℕ → Type 0
@@ -60,6 +99,13 @@ LineEnds files out (Replay file derivation) =
     AndThen (ReadsText which.Derivation files derivation) (λ bytes.
     AndThen (Accepts program bytes) (λ n.
     Prints (accepted_line n) out))))
+LineEnds files out (Eval file name values budget) =
+    AndThen (ReadsText which.Program files file) (λ text.
+    AndThen (Sources text) (λ program.
+    AndThen (FindsCall program name values) (λ call.
+    AndThen (Evaluates program call budget) (λ done.
+    AndThen (Spells (value_text program.names done.value)) (λ bytes.
+    Prints (evaluated_by bytes done.calls) out)))))
 
 -- a line ends so, and the sink gained what the line printed
 pub record Runs (files : FilesSeen) (out : SinkSeen) (line : CommandLine) (end : End) : Type 0 where

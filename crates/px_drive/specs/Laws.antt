@@ -1,24 +1,35 @@
 -- What the sources of programs are, and what the table of causes says of every call.
-use Rattle.std.specs.Prelude.{◌≡◌, ◌≢◌, ℕ, ◌<◌, ◌≤◌, ◌⊎◌, List, [], length, ⊤, Option, None, Some}
+use Rattle.std.specs.Prelude.{◌≡◌, ◌≢◌, ℕ, ◌<◌, ◌≤◌, ◌⊎◌, List, [], length, slice_get, ⊤, Option, None, Some}
+use Rattle.px_base.specs.declared.limits.TheConstants.{VALUE_NODES}
+use Rattle.px_terms.specs.declared.types.Ty.{Ty}
+use Rattle.px_terms.specs.declared.term.Value.{Value}
+use Rattle.px_terms.specs.declared.program.Def.{Def}
 use Rattle.px_terms.specs.declared.program.Program.{Program}
+use Rattle.px_terms.specs.Values.{IsIn}
 use Rattle.px_terms.specs.Extending.{IsExtension}
 use Rattle.px_terms.specs.Obligations.{AllHoldInExtensions}
 use Rattle.px_descent.specs.Checked.{IsChecked as HoldsChecked}
 use Rattle.px_replay.specs.declared.ends.Why.{Why}
+use Rattle.px_machine.specs.Cells.{preorder}
+use Rattle.px_machine.specs.ValueText.{value_text}
+use Rattle.px_schedule.specs.ValueGrammar.{IsText}
 use Rattle.px_world.specs.Known.{Told, IsLonger}
 use Rattle.px_scope.specs.declared.ends.ScopeKind.{ScopeKind}
+use Rattle.px_drive.specs.declared.arguments.ClosedCall.{ClosedCall}
+use Rattle.px_drive.specs.declared.outcome.ArgumentKind.{ArgumentKind}
 use Rattle.px_drive.specs.declared.outcome.CommandLine.{CommandLine}
-use Rattle.px_drive.specs.declared.outcome.CommandLine.TheVariants.{Check, Replay}
+use Rattle.px_drive.specs.declared.outcome.CommandLine.TheVariants.{Check, Replay, Eval}
 use Rattle.px_drive.specs.declared.outcome.Which.TheVariants as which
 use Rattle.px_drive.specs.declared.outcome.End.{End}
-use Rattle.px_drive.specs.declared.outcome.End.TheVariants.{Done, Usage, Source, Rejected, ReadFault, WriteFault, NoMemory, TooLong}
+use Rattle.px_drive.specs.declared.outcome.End.TheVariants.{Done, Usage, Source, Rejected, Spent, ReadFault, WriteFault, NoMemory, TooLong, Arguments}
 use Rattle.px_drive.specs.declared.outcome.SourceFault.{SourceFault}
 use Rattle.px_drive.specs.declared.outcome.SourceFault.TheVariants.{Scope}
 use Rattle.px_drive.specs.Lines.{line_of, program_of}
-use Rattle.px_drive.specs.Messages.{checked_line, accepted_line}
+use Rattle.px_drive.specs.Messages.{checked_line, accepted_line, evaluated_lines}
 use Rattle.px_drive.specs.Seen.{FilesSeen, SinkSeen}
 use Rattle.px_drive.specs.Sources.{IsSource, IsSourceFault, IsFirstBroken}
 use Rattle.px_drive.specs.Derivations.{IsDerivationOf, IsRejected}
+use Rattle.px_drive.specs.Arguments.{IsCall, IsNoCall, IsValueOfCall, DefinitionsAreNumbered}
 use Rattle.px_drive.specs.Ends.{limit_of, LineEnds}
 use Rattle.px_drive.specs.Answers.{Ends}
 use Rattle.px_drive.specs.Completeness.{HasText}
@@ -43,6 +54,38 @@ SourceExtendsItself = (text : List ℕ) (P : Program) → IsSource text P → Is
 -- each call and each typed term has exactly one value
 abbrev pub SourceIsChecked : Type 0
 SourceIsChecked = (text : List ℕ) (P : Program) → IsSource text P → HoldsChecked P
+
+-- the definitions of the program of a text, and the parameters of each, are numbered below 2^32
+abbrev pub SourceIsNumbered : Type 0
+SourceIsNumbered = (text : List ℕ) (P : Program) → IsSource text P → DefinitionsAreNumbered P
+
+-- in the program of a text a name and words are at most one call
+abbrev pub OneCall : Type 0
+OneCall = (text : List ℕ) (P : Program) → IsSource text P → (name : List ℕ) (words : List (List ℕ)) (call other : ClosedCall) → IsCall P name words call → IsCall P name words other → call ≡ other
+
+-- in the program of a text a name and words are no call for at most one cause
+abbrev pub OneNoCall : Type 0
+OneNoCall = (text : List ℕ) (P : Program) → IsSource text P → (name : List ℕ) (words : List (List ℕ)) (kind other : ArgumentKind) (number another : ℕ) → IsNoCall P name words kind number → IsNoCall P name words other another
+    → (kind ≡ other) × (number ≡ another)
+
+-- in the program of a text no name and words are a call and are none
+abbrev pub NeverCallAndNone : Type 0
+NeverCallAndNone = (text : List ℕ) (P : Program) → IsSource text P → (name : List ℕ) (words : List (List ℕ)) (call : ClosedCall) (kind : ArgumentKind) (number : ℕ) → IsCall P name words call → ¬ IsNoCall P name words kind number
+
+-- in the program of a text a call has at most one value, with one number of calls
+abbrev pub OneValueOfCall : Type 0
+OneValueOfCall = (text : List ℕ) (P : Program) → IsSource text P → (name : List ℕ) (words : List (List ℕ)) (call : ClosedCall) → IsCall P name words call
+    → (v w : Value) (a b : ℕ) → IsValueOfCall P call v a → IsValueOfCall P call w b → (v ≡ w) × (a ≡ b)
+
+-- in the program of a text, what is printed of a value of a type, where it has at most VALUE_NODES nodes, is a text of that value of the type
+abbrev pub PrintedIsText : Type 0
+PrintedIsText = (text : List ℕ) (P : Program) → IsSource text P → (T : Ty) (v : Value) → IsIn P T v → length (preorder v) ≤ VALUE_NODES → IsText P T (value_text P.names v) v
+
+-- in the program of a text, what is printed of the value of a call, where it has at most VALUE_NODES nodes, is a text of that value of the
+-- definition's result type
+abbrev pub AnswersAreTexts : Type 0
+AnswersAreTexts = (text : List ℕ) (P : Program) → IsSource text P → (name : List ℕ) (words : List (List ℕ)) (call : ClosedCall) → IsCall P name words call
+    → (D : Def) → slice_get P.defs call.def ≡ Some D → (v : Value) (calls : ℕ) → IsValueOfCall P call v calls → length (preorder v) ≤ VALUE_NODES → IsText P D.result (value_text P.names v) v
 
 -- a fault of scope is the first by byte: a name of the text breaks that rule there, and none breaks a rule before
 abbrev pub ScopeFaultIsFirst : Type 0
@@ -88,6 +131,14 @@ IsNamed (Replay _ _) WriteFault = ⊤
 IsNamed (Replay _ _) NoMemory = ⊤
 IsNamed (Replay _ _) (TooLong which.Program) = ⊤
 IsNamed (Replay _ _) (TooLong which.Derivation) = ⊤
+IsNamed (Eval _ _ _ _) Done = ⊤
+IsNamed (Eval _ _ _ _) (Source _) = ⊤
+IsNamed (Eval _ _ _ _) (Spent event) = event ≡ 0
+IsNamed (Eval _ _ _ _) ReadFault = ⊤
+IsNamed (Eval _ _ _ _) WriteFault = ⊤
+IsNamed (Eval _ _ _ _) NoMemory = ⊤
+IsNamed (Eval _ _ _ _) (TooLong which.Program) = ⊤
+IsNamed (Eval _ _ _ _) (Arguments _ _) = ⊤
 IsNamed _ _ = ⊥
 
 -- a line ends in no refusal that isn't named for its command
@@ -177,6 +228,8 @@ abbrev pub EndsEarly : End → Type 0
 EndsEarly Done = ⊥
 EndsEarly Usage = ⊥
 EndsEarly (Rejected _ _) = ⊥
+EndsEarly (Spent _) = ⊥
+EndsEarly (Arguments _ _) = ⊥
 EndsEarly WriteFault = ⊥
 EndsEarly _ = ⊤
 
@@ -190,6 +243,70 @@ LongIsNotReplayed = (files : FilesSeen) (out : SinkSeen) (file derivation printe
 abbrev pub LongDerivationIsTooLong : Type 0
 LongDerivationIsTooLong = (files : FilesSeen) (out : SinkSeen) (file derivation printed text bytes : List ℕ) (P : Program) (end : End) → HasText files which.Program file text → IsSource text P
     → files.bytes derivation ≡ Some bytes → limit_of which.Derivation < length bytes → LineEnds files out (Replay file derivation) end printed → (end ≡ TooLong which.Derivation) ⊎ ((end ≡ ReadFault) ⊎ (end ≡ NoMemory))
+
+-- `eval` did its work: the name and the words are a call of the program, its value and its number of calls, which is within the
+-- budget, were printed, and the text is the file's where this is told
+pub record IsEvaluated (files : FilesSeen) (file name : List ℕ) (words : List (List ℕ)) (budget : ℕ) (printed : List ℕ) : Type 0 where
+  pub text : List ℕ
+  pub program : Program
+  pub call : ClosedCall
+  pub value : Value
+  pub calls : ℕ
+  pub text_is : Told (files.bytes file) text
+  pub is_source : IsSource text program
+  pub is_call : IsCall program name words call
+  pub is_value : IsValueOfCall program call value calls
+  pub within : calls ≤ budget
+  pub printed_is : printed ≡ evaluated_lines program.names value calls
+
+-- where `eval` ends Done, it did its work
+abbrev pub DoneIsEvaluated : Type 0
+DoneIsEvaluated = (files : FilesSeen) (out : SinkSeen) (file name : List ℕ) (words : List (List ℕ)) (budget : ℕ) (printed : List ℕ) → LineEnds files out (Eval file name words budget) Done printed → IsEvaluated files file name words budget printed
+
+-- the arguments were refused: the name and the words are no call of the program, for this cause, and the text is the file's where this
+-- is told
+pub record IsRefusedCall (files : FilesSeen) (file name : List ℕ) (words : List (List ℕ)) (kind : ArgumentKind) (number : ℕ) : Type 0 where
+  pub text : List ℕ
+  pub program : Program
+  pub text_is : Told (files.bytes file) text
+  pub is_source : IsSource text program
+  pub is_no_call : IsNoCall program name words kind number
+
+-- where `eval` ends with a refusal of its arguments, they are refused for their cause
+abbrev pub ArgumentsAreRefused : Type 0
+ArgumentsAreRefused = (files : FilesSeen) (out : SinkSeen) (file name : List ℕ) (words : List (List ℕ)) (budget : ℕ) (printed : List ℕ) (kind : ArgumentKind) (number : ℕ)
+    → LineEnds files out (Eval file name words budget) (Arguments kind number) printed → IsRefusedCall files file name words kind number
+
+-- arguments that are no call of the program of a text that is told, within its limit, are refused for their cause, but for a fault
+-- of reading or want of memory
+abbrev pub RefusedAreArguments : Type 0
+RefusedAreArguments = (files : FilesSeen) (out : SinkSeen) (file name : List ℕ) (words : List (List ℕ)) (budget : ℕ) (printed text : List ℕ) (P : Program) (kind : ArgumentKind) (number : ℕ) (end : End) → HasText files which.Program file text
+    → IsSource text P → IsNoCall P name words kind number → LineEnds files out (Eval file name words budget) end printed → (end ≡ Arguments kind number) ⊎ ((end ≡ ReadFault) ⊎ (end ≡ NoMemory))
+
+-- the call takes more calls than the budget: the name and the words are a call of the program that takes so many, and the text is the
+-- file's where this is told
+pub record IsSpentCall (files : FilesSeen) (file name : List ℕ) (words : List (List ℕ)) (budget : ℕ) : Type 0 where
+  pub text : List ℕ
+  pub program : Program
+  pub call : ClosedCall
+  pub value : Value
+  pub calls : ℕ
+  pub text_is : Told (files.bytes file) text
+  pub is_source : IsSource text program
+  pub is_call : IsCall program name words call
+  pub is_value : IsValueOfCall program call value calls
+  pub above : budget < calls
+
+-- where `eval` ends Spent, the event is 0, and the call takes more calls than the budget
+abbrev pub SpentIsAbove : Type 0
+SpentIsAbove = (files : FilesSeen) (out : SinkSeen) (file name : List ℕ) (words : List (List ℕ)) (budget : ℕ) (printed : List ℕ) (event : ℕ) → LineEnds files out (Eval file name words budget) (Spent event) printed
+    → (event ≡ 0) × IsSpentCall files file name words budget
+
+-- a call of the program of a text that is told, within its limit, that takes more calls than the budget ends Spent, but for a fault
+-- of reading or want of memory
+abbrev pub AboveIsSpent : Type 0
+AboveIsSpent = (files : FilesSeen) (out : SinkSeen) (file name : List ℕ) (words : List (List ℕ)) (budget : ℕ) (printed text : List ℕ) (P : Program) (call : ClosedCall) (v : Value) (calls : ℕ) (end : End) → HasText files which.Program file text
+    → IsSource text P → IsCall P name words call → IsValueOfCall P call v calls → budget < calls → LineEnds files out (Eval file name words budget) end printed → (end ≡ Spent 0) ⊎ ((end ≡ ReadFault) ⊎ (end ≡ NoMemory))
 
 -- a refusal prints nothing, but for a failed write
 abbrev pub RefusalsPrintNothing : Type 0

@@ -5,6 +5,7 @@ pub mod Sources
 pub mod Derivations
 pub mod Feeding
 pub mod Refusals
+pub mod Arguments
 pub mod Ends
 pub mod Answers
 pub mod Laws

@@ -4,8 +4,9 @@ ghost use Rattle.px_drive.specs.Lines.{files_of};
 ghost use Rattle.px_drive.specs.Ends.{Runs, end_of};
 ghost use Rattle.px_drive.specs.Seen.{files_seen, sink_seen, KeepsFiles};
 
+use crate::eval::{Question, eval};
 use crate::messages::{print_accepted, print_checked};
-use crate::stages::{accept, read_source, read_text};
+use crate::stages::{accept, read_program, read_text};
 use crate::{CommandLine, End, Which};
 use px_terms::Text;
 use px_world::{Files, Sink};
@@ -45,6 +46,19 @@ fn do_line<F: Files, O: Sink>(
     match line {
         CommandLine::Check { file } => check(alloc, file, files, out),
         CommandLine::Replay { file, derivation } => replay(alloc, file, derivation, files, out),
+        CommandLine::Eval {
+            file,
+            name,
+            values,
+            calls,
+        } => {
+            let question = Question {
+                name,
+                values,
+                calls: *calls,
+            };
+            eval(alloc, file, question, files, out)
+        }
     }
 }
 
@@ -61,8 +75,7 @@ fn check<F: Files, O: Sink>(
     ensures keeps { KeepsFiles F.Files files.old files.new }
     ensures out_later { O.faults out.old ≤ O.faults out.new }
 {
-    let text = read_text(alloc, files, file, Which::Program)?;
-    let checked = read_source(alloc, &text)?;
+    let checked = read_program(alloc, file, files)?;
     print_checked(out, checked.program())?;
     Ok(())
 }
@@ -82,8 +95,7 @@ fn replay<F: Files, O: Sink>(
     ensures keeps { KeepsFiles F.Files files.old files.new }
     ensures out_later { O.faults out.old ≤ O.faults out.new }
 {
-    let text = read_text(alloc, files, file, Which::Program)?;
-    let checked = read_source(alloc, &text)?;
+    let checked = read_program(alloc, file, files)?;
     let steps = read_text(alloc, files, derivation, Which::Derivation)?;
     let obligations = accept(alloc, &checked, &steps)?;
     print_accepted(out, obligations)?;

@@ -9,7 +9,10 @@ ghost use Rattle.px_drive.specs.Headline.{Headline, TellsFirstBroken};
 ghost use Rattle.px_drive.specs.Completeness.{IsComplete};
 
 use crate::chain::run_line;
-use crate::laws::{accepted_is_true, never_both, never_rejected, one_source, scope_fault_is_first};
+use crate::laws::{
+    accepted_is_true, never_both, never_call_and_none, never_rejected, one_call, one_source,
+    one_value_of_call, scope_fault_is_first,
+};
 use crate::line::read_line;
 use crate::messages::report;
 use crate::{End, Outcome};
@@ -62,6 +65,9 @@ pub fn drive<F: Files, O: Sink, E: Sink>(
     one_source();
     never_both();
     never_rejected();
+    one_call();
+    never_call_and_none();
+    one_value_of_call();
     scope_fault_is_first();
     answer(alloc, words, files, out, err)
 }

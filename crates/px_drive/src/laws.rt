@@ -1,13 +1,14 @@
 //! What the sources of programs are, and what the table of causes says of every call, as functions whose contracts are
 //! these laws.
 
-ghost use Rattle.px_drive.specs.Laws.{OneSource, OneSourceFault, NeverBoth, SourceExtendsItself, SourceIsChecked, ScopeFaultIsFirst, NeverRejected, OneRejection, AcceptedIsTrue, UsageByWords, DoneOrUsage, EndsAreNamed, SourceIsFaulty, FaultyIsSource, DoneIsChecked, DoneIsReplayed, RejectedIsRefused, RefusedIsRejected, TooLongIsLonger, LongIsTooLong, LongIsNotReplayed, LongDerivationIsTooLong, RefusalsPrintNothing};
+ghost use Rattle.px_drive.specs.Laws.{OneSource, OneSourceFault, NeverBoth, SourceExtendsItself, SourceIsChecked, SourceIsNumbered, OneCall, OneNoCall, NeverCallAndNone, OneValueOfCall, PrintedIsText, AnswersAreTexts, ScopeFaultIsFirst, NeverRejected, OneRejection, AcceptedIsTrue, UsageByWords, DoneOrUsage, EndsAreNamed, SourceIsFaulty, FaultyIsSource, DoneIsChecked, DoneIsReplayed, RejectedIsRefused, RefusedIsRejected, DoneIsEvaluated, ArgumentsAreRefused, RefusedAreArguments, SpentIsAbove, AboveIsSpent, TooLongIsLonger, LongIsTooLong, LongIsNotReplayed, LongDerivationIsTooLong, RefusalsPrintNothing};
 
 use px_derive::one_row;
 use px_descent::{one_first_stuck, stuck_excludes_descent};
 use px_lexer::one_list;
 use px_parser::{one_tree, trees_are_fine};
 use px_replay::{ends_are_derivations, one_state, partials_begin};
+use px_schedule::one_value;
 use px_scope::{
     each_name_is_listed, fault_is_first, names_are_lawful, names_rise, numberings_fit,
     one_numbering,
@@ -94,6 +95,64 @@ pub fn source_is_checked()
     each_call_has_value();
     each_function_has_value();
     each_term_has_value();
+}
+
+/// The definitions of the program of a text, and the parameters of each, are numbered below 2^32.
+pub fn source_is_numbered()
+    ensures { SourceIsNumbered }
+{
+    trees_are_fine();
+    numberings_fit();
+}
+
+/// In the program of a text a name and words are at most one call.
+pub fn one_call()
+    ensures { OneCall }
+{
+    source_is_checked();
+    one_value();
+}
+
+/// In the program of a text a name and words are no call for at most one cause.
+pub fn one_no_call()
+    ensures { OneNoCall }
+{
+    source_is_checked();
+}
+
+/// In the program of a text no name and words are a call and are none.
+pub fn never_call_and_none()
+    ensures { NeverCallAndNone }
+{
+    source_is_checked();
+}
+
+/// In the program of a text a call has at most one value, with one number of calls.
+pub fn one_value_of_call()
+    ensures { OneValueOfCall }
+{
+    source_is_checked();
+    source_extends_itself();
+}
+
+/// In the program of a text, what is printed of a value of a type, where it has at most `VALUE_NODES` nodes, is a text of that value of
+/// the type.
+pub fn printed_is_text()
+    ensures { PrintedIsText }
+{
+    trees_are_fine();
+    numberings_fit();
+    px_schedule::printed_is_text();
+}
+
+/// In the program of a text, what is printed of the value of a call, where it has at most `VALUE_NODES` nodes, is a text of that value of
+/// the definition's result type: it can be read again.
+pub fn answers_are_texts()
+    ensures { AnswersAreTexts }
+{
+    source_is_checked();
+    source_extends_itself();
+    printed_is_text();
 }
 
 /// A fault of scope is at the least byte of the text at which a name breaks a rule.
@@ -189,6 +248,45 @@ pub fn refused_is_rejected()
     never_both();
     never_rejected();
     one_rejection();
+}
+
+/// Where `eval` ends `Done`, the name and the words are a call of the program, and its value and its number of calls, which is within
+/// the budget, were printed.
+pub fn done_is_evaluated()
+    ensures { DoneIsEvaluated }
+{}
+
+/// Where `eval` ends with a refusal of its arguments, the name and the words are no call of the program, for the cause that is told.
+pub fn arguments_are_refused()
+    ensures { ArgumentsAreRefused }
+{}
+
+/// Arguments that are no call of the program of a text that is told, within its limit, are refused for their cause, but for a fault of
+/// reading or want of memory.
+pub fn refused_are_arguments()
+    ensures { RefusedAreArguments }
+{
+    one_source();
+    never_both();
+    one_no_call();
+    never_call_and_none();
+}
+
+/// Where `eval` ends `Spent`, the event is 0, and the call takes more calls than the budget.
+pub fn spent_is_above()
+    ensures { SpentIsAbove }
+{}
+
+/// A call of the program of a text that is told, within its limit, that takes more calls than the budget ends `Spent`, but for a fault
+/// of reading or want of memory.
+pub fn above_is_spent()
+    ensures { AboveIsSpent }
+{
+    one_source();
+    never_both();
+    one_call();
+    never_call_and_none();
+    one_value_of_call();
 }
 
 /// A text that is told is too long only where it has more bytes than its limit.

@@ -8,10 +8,14 @@
 //! What is handed `alloc` takes memory, and answers `NoMemory` where there is none; nothing else takes any.
 #![tactic(auto)]
 
+mod arguments;
 mod chain;
 #[cfg(test)]
 mod check_tests;
 mod command;
+mod eval;
+#[cfg(test)]
+mod eval_tests;
 pub mod laws;
 mod line;
 mod messages;
@@ -25,5 +29,5 @@ mod tests;
 
 pub use command::drive;
 pub use messages::status;
-pub use outcome::{CommandLine, End, Outcome, SourceFault, Which};
+pub use outcome::{ArgumentKind, CommandLine, End, Outcome, SourceFault, Which};
 pub use px_replay::Why;

@@ -1,17 +1,20 @@
 //! What is printed: the answer of a command that is done, or the one line of its refusal; and the number that the program ends with.
 ghost use Rattle.std.specs.Prelude.{◌≡◌, ◌≤◌, ◌++◌, codes};
 ghost use Rattle.std.specs.Fmt.{decimal};
-ghost use Rattle.px_drive.specs.Messages.{checked_line, accepted_line, scope_words, type_words, why_words, source_line, rejected_line, message_of, status_of, bytes_of_all};
+ghost use Rattle.px_drive.specs.Messages.{checked_line, accepted_line, scope_words, type_words, why_words, argument_words, source_line, rejected_line, arguments_line, spent_line, evaluated_by, message_of, status_of, bytes_of_all};
 ghost use Rattle.px_drive.specs.Answers.{Tells};
 ghost use Rattle.px_drive.specs.Seen.{sink_seen, Writes};
 
-use crate::{End, Outcome, SourceFault, Which};
+use crate::{ArgumentKind, End, Outcome, SourceFault, Which};
 use itoa::Buffer;
 use px_replay::Why;
 use px_scope::ScopeKind;
 use px_terms::Program;
 use px_types::TypeKind;
 use px_world::{Sink, WriteFault, write_all};
+
+/// The line of words that are no plain line.
+const USAGE: &[u8] = b"usage: propel check F | replay F D | eval F NAME V.. [--calls N]\n";
 
 /// The status that the program ends with: 0 where the work is done, and a number of its own for each
 /// kind of refusal.
@@ -23,10 +26,12 @@ pub fn status(outcome: &Outcome) -> u8
         End::Usage => 2,
         End::Source(_) => 3,
         End::Rejected { .. } => 5,
+        End::Spent { .. } => 7,
         End::ReadFault => 8,
         End::WriteFault => 9,
         End::NoMemory => 10,
         End::TooLong { .. } => 11,
+        End::Arguments { .. } => 13,
     }
 }
 
@@ -37,9 +42,10 @@ fn write_message<E: Sink>(end: End, err: &mut E) -> Result<(), WriteFault>
 {
     match end {
         End::Done => write_line(err, b""),
-        End::Usage => write_line(err, b"usage: propel check F | replay F D\n"),
+        End::Usage => write_line(err, USAGE),
         End::Source(fault) => write_source(fault, err),
         End::Rejected { line, why } => write_rejected(line, why, err),
+        End::Spent { event } => write_spent(event, err),
         End::ReadFault => write_line(err, b"read fault\n"),
         End::WriteFault => write_line(err, b"write fault\n"),
         End::NoMemory => write_line(err, b"no memory\n"),
@@ -47,6 +53,7 @@ fn write_message<E: Sink>(end: End, err: &mut E) -> Result<(), WriteFault>
             Which::Program => write_line(err, b"too long: program\n"),
             Which::Derivation => write_line(err, b"too long: derivation\n"),
         },
+        End::Arguments { kind, word } => write_arguments(kind, word, err),
     }
 }
 
@@ -121,6 +128,48 @@ fn write_rejected<E: Sink>(line: u64, why: Why, err: &mut E) -> Result<(), Write
             b"\n",
         ],
     )
+}
+
+/// Writes the line of a call that takes too many calls.
+fn write_spent<E: Sink>(event: u64, err: &mut E) -> Result<(), WriteFault>
+    ensures writes { Writes (spent_line event) (sink_seen E.Sink err.old err.new) result }
+    ensures later { E.faults err.old ≤ E.faults err.new }
+{
+    let mut digits = Buffer::new();
+    write_pieces(
+        err,
+        &[b"spent: event ", digits.format(event).as_bytes(), b"\n"],
+    )
+}
+
+/// Writes the line of arguments that are refused.
+fn write_arguments<E: Sink>(kind: ArgumentKind, word: u32, err: &mut E) -> Result<(), WriteFault>
+    ensures writes { Writes (arguments_line kind word) (sink_seen E.Sink err.old err.new) result }
+    ensures later { E.faults err.old ≤ E.faults err.new }
+{
+    let mut number = Buffer::new();
+    write_pieces(
+        err,
+        &[
+            b"arguments: ",
+            cause_of(kind).as_bytes(),
+            b" ",
+            number.format(word).as_bytes(),
+            b"\n",
+        ],
+    )
+}
+
+/// Why arguments are refused, in words.
+fn cause_of(kind: ArgumentKind) -> &'static str
+    ensures { result.now ≡ argument_words kind }
+{
+    match kind {
+        ArgumentKind::NoSuchName => "no-such-name",
+        ArgumentKind::NotPlain => "not-plain",
+        ArgumentKind::Count => "count",
+        ArgumentKind::BadValue => "bad-value",
+    }
 }
 
 /// What is wrong with a line, in words.
@@ -220,6 +269,22 @@ pub(crate) fn print_accepted<O: Sink>(out: &mut O, obligations: u32) -> Result<(
     write_pieces(
         out,
         &[b"accepted ", digits.format(obligations).as_bytes(), b"\n"],
+    )
+}
+
+/// Writes the text of a value, and the number of calls that it took on a line of its own.
+pub(crate) fn print_evaluated<O: Sink>(
+    out: &mut O,
+    value: &[u8],
+    calls: u64,
+) -> Result<(), WriteFault>
+    ensures writes { Writes (evaluated_by value.now calls) (sink_seen O.Sink out.old out.new) result }
+    ensures later { O.faults out.old ≤ O.faults out.new }
+{
+    let mut digits = Buffer::new();
+    write_pieces(
+        out,
+        &[value, b"\ncalls ", digits.format(calls).as_bytes(), b"\n"],
     )
 }
 

@@ -3,14 +3,28 @@ use px_replay::Why;
 use px_scope::ScopeKind;
 use px_terms::Text;
 use px_types::TypeKind;
+use sqlite_items::Items;
 
 /// A plain line: the command that the words are, with its arguments.
 #[derive(Drop)]
 pub enum CommandLine {
     /// `check F`: reads the program in the file F.
-    Check { file: Text },
+    Check {
+        file: Text,
+    },
     /// `replay F D`: replays the derivation in the file D of the program in the file F.
-    Replay { file: Text, derivation: Text },
+    Replay {
+        file: Text,
+        derivation: Text,
+    },
+    /// `eval F NAME V.. [--calls N]`: evaluates the call of the definition NAME of the program in the file F on the values V, within
+    /// N calls.
+    Eval {
+        file: Text,
+        name: Text,
+        values: Items<Text>,
+        calls: u64,
+    },
 }
 
 /// Why a program's text was refused, by the first layer that refuses it.
@@ -40,6 +54,19 @@ pub enum Which {
     Derivation,
 }
 
+/// Why the arguments of `eval` were refused; the first cause in this order is told.
+#[derive(Clone, Copy, Debug, PartialEq, Eq)]
+pub enum ArgumentKind {
+    /// The program has no definition of this name.
+    NoSuchName,
+    /// The definition has type parameters or function parameters.
+    NotPlain,
+    /// The definition has more or fewer data parameters.
+    Count,
+    /// A word is no value of its parameter's type, or one with more than `VALUE_NODES` nodes, or has more than `SCHEDULE_BYTES` bytes.
+    BadValue,
+}
+
 /// How a command ends.
 #[derive(Clone, Copy, Debug, PartialEq, Eq)]
 pub enum End {
@@ -53,6 +80,8 @@ pub enum End {
     /// derivation of the program any more, or has no line feed, or is the one behind the last, where lines are missing; and
     /// this is what is wrong with it.
     Rejected { line: u64, why: Why },
+    /// The call takes more calls than it may make. For `eval` the event is 0.
+    Spent { event: u64 },
     /// Opening or reading a text failed. The files' count of faults rose.
     ReadFault,
     /// A write failed. The count of faults of the output or of the errors rose.
@@ -61,6 +90,8 @@ pub enum End {
     NoMemory,
     /// The text is longer than it may be.
     TooLong { text: Which },
+    /// The arguments of `eval` were refused. `word` is the number of the first bad value, from 0; it is 0 for every other cause.
+    Arguments { kind: ArgumentKind, word: u32 },
 }
 
 /// The line that was read, and how the command ended. There is no line where the words are no plain line,

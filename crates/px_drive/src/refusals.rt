@@ -11,6 +11,7 @@ use px_scope::ScopeEnd;
 use px_terms::NoMemory;
 use px_types::TypeEnd;
 use px_world::WriteFault;
+use std::alloc::AllocError;
 
 impl From<NoMemory> for End {
     ghost use Rattle.px_drive.specs.declared.outcome.End.TheVariants.{NoMemory};
@@ -18,6 +19,16 @@ impl From<NoMemory> for End {
     ghost from_gives = { λ _ end. end ≡ NoMemory };
 
     fn from(_refusal: NoMemory) -> End {
+        End::NoMemory
+    }
+}
+
+impl From<AllocError> for End {
+    ghost use Rattle.px_drive.specs.declared.outcome.End.TheVariants.{NoMemory};
+
+    ghost from_gives = { λ _ end. end ≡ NoMemory };
+
+    fn from(_refusal: AllocError) -> End {
         End::NoMemory
     }
 }

@@ -3,7 +3,7 @@ ghost use Rattle.std.specs.Prelude.{◌≤◌, ◌≡◌, [], length, IsTrue};
 ghost use Rattle.px_terms.specs.limits.TheConstants.{PROGRAM_BYTES as PROGRAM_LIMIT, DERIVATION_BYTES as DERIVATION_LIMIT};
 ghost use Rattle.px_replay.specs.Standings.{StandsFor};
 ghost use Rattle.px_drive.specs.Feeding.{Feeds};
-ghost use Rattle.px_drive.specs.Ends.{limit_of, ReadsText, Accepts};
+ghost use Rattle.px_drive.specs.Ends.{limit_of, ReadsText, ReadsSource, Accepts};
 ghost use Rattle.px_drive.specs.Seen.{files_seen, KeepsFiles};
 ghost use Rattle.px_drive.specs.Sources.{Sources};
 
@@ -50,9 +50,24 @@ pub(crate) fn read_text<F: Files>(
     }
 }
 
+/// Reads the text of a program whole, and finds the program that it is. The name must be one that may be opened.
+pub(crate) fn read_program<F: Files>(
+    alloc: Global,
+    file: &Text,
+    files: &mut F,
+) -> Result<Checked, End>
+    requires { IsTrue (F.may_open files.old file.now) }
+    ensures reads { ReadsSource (files_seen F.Files files.old files.new) file.now result }
+    ensures keeps { KeepsFiles F.Files files.old files.new }
+{
+    let text = read_text(alloc, files, file, Which::Program)?;
+    let checked = read_source(alloc, &text)?;
+    Ok(checked)
+}
+
 /// The program of the bytes: their tokens, the tokens' tree, the tree with numbers for names, and the typed program of
 /// that, in which each definition descends. A fault where the first of these layers that fails has it.
-pub(crate) fn read_source(alloc: Global, bytes: &Bytes) -> Result<Checked, End>
+fn read_source(alloc: Global, bytes: &Bytes) -> Result<Checked, End>
     requires { length bytes.now ≤ PROGRAM_LIMIT }
     ensures { Sources bytes.now result }
 {

@@ -9,7 +9,14 @@ pub returns-clause-first_broken : goal.returns-clause-first_broken
 returns-clause-first_broken g c = first_broken _ _ _ _ _ c.answer.ensures.answer c.scope_fault_is_first.ensures
 
 pub returns-clause-complete : goal.returns-clause-complete
-returns-clause-complete g c = answer_done c.one_source.ensures c.never_both.ensures c.never_rejected.ensures _ _ _ _ _ c.answer.ensures.answer
+returns-clause-complete g c = answer_done (record {
+  one_source = c.one_source.ensures;
+  never_both = c.never_both.ensures;
+  never_rejected = c.never_rejected.ensures;
+  one_call = c.one_call.ensures;
+  never_call_and_none = c.never_call_and_none.ensures;
+  one_value_of_call = c.one_value_of_call.ensures;
+}) _ _ _ _ _ c.answer.ensures.answer
 
 pub returns-clause-read_fault : goal.returns-clause-read_fault
 returns-clause-read_fault g c = read_fault _ _ _ _ _ c.answer.ensures.answer

@@ -17,3 +17,9 @@ returns-in-Program-clause-writes g c = rw (c.in-TooLong.is, c.in-Program.is) c.w
 
 pub returns-in-Derivation-clause-writes : goal.returns-in-Derivation-clause-writes
 returns-in-Derivation-clause-writes g c = rw (c.in-TooLong.is, c.in-Derivation.is) c.write_line-in-Derivation.ensures.writes
+
+pub returns-in-Spent-clause-writes : goal.returns-in-Spent-clause-writes
+returns-in-Spent-clause-writes g c = rw c.in-Spent.is c.write_spent.ensures.writes
+
+pub returns-in-Arguments-clause-writes : goal.returns-in-Arguments-clause-writes
+returns-in-Arguments-clause-writes g c = rw c.in-Arguments.is c.write_arguments.ensures.writes
