@@ -1,0 +1,4 @@
+pub mod RisingLists
+pub mod Semilattices
+pub mod Outputs
+pub mod OneOutput
