@@ -6,3 +6,4 @@ pub mod UnionSteps
 pub mod FirstSteps
 pub mod MergeTyping
 pub mod MergeSteps
+pub mod VersionSteps
