@@ -7,3 +7,7 @@ pub mod FirstSteps
 pub mod MergeTyping
 pub mod MergeSteps
 pub mod VersionSteps
+pub mod Changes
+pub mod JoinSteps
+pub mod GoingOn
+pub mod WorldSteps
