@@ -83,9 +83,6 @@ module _ (w : Standing) (m : Merge) (kept : IsKept w m) where
 
   -- The world after an update.
   module _ (r : ℕ) (v : Value) (budget : ℕ) where
-    abbrev pub e : Event
-    e = event.Update r v
-
     pub updated_so : (before next : Version) → slice_get w.replicas r ≡ Some before → IsOfState w v →
         ((P : Program) (R : ReplicaDef) → Serves P R m → IsIn P R.state before.state → IsIn P R.state v → MergesTo P R before.state v budget next.state) →
         next.numbers ≡ before.numbers ++ w.updates ∷ [] → (R : ReplicaDef) → Runs w w.program R → IsUpdated w R r v budget next
@@ -167,3 +164,158 @@ module _ (w : Standing) (m : Merge) (kept : IsKept w m) where
         at_programs w (λ P R. HappensWithin w P R (event.Update r v) budget new None)
         (λ R runs. let u = it R runs in
         record { calls = u.merged.calls; happens = update u.old next u.is_old u.merged.merges u.numbers same refl; within = u.merged.within })
+
+  -- what both sides of a delivery merge
+  pub can_merge_both : (k r : ℕ) (before sent : Version) → slice_get w.replicas r ≡ Some before → slice_get w.messages k ≡ Some sent → CanMerge m before.state sent.state
+  can_merge_both k r before sent at from = record {
+    program = w.program;
+    replica = kept.replica;
+    serves = kept.serves;
+    one = (kept.replicas.each r before at).typed;
+    other = (kept.messages.each k sent from).typed;
+  }
+
+  -- The world after a delivery.
+  module _ (k r : ℕ) (budget : ℕ) where
+    pub delivered_so : (before sent next : Version) → slice_get w.replicas r ≡ Some before → slice_get w.messages k ≡ Some sent →
+        ((P : Program) (R : ReplicaDef) → Serves P R m → IsIn P R.state before.state → IsIn P R.state sent.state → MergesTo P R before.state sent.state budget next.state) →
+        IsUnion before.numbers sent.numbers next.numbers → (R : ReplicaDef) → Runs w w.program R → IsDelivered w R k r budget next
+    delivered_so before sent next at from run union = own_replica (λ (R : ReplicaDef). IsDelivered w R k r budget next) (record {
+      old = before;
+      is_old = at;
+      sent = sent;
+      is_sent = from;
+      merged = run w.program kept.replica kept.serves (kept.replicas.each r before at).typed (kept.messages.each k sent from).typed;
+      numbers = union;
+    })
+
+    above_delivery : (before sent : Version) (numbers : List ℕ) → slice_get w.replicas r ≡ Some before → slice_get w.messages k ≡ Some sent →
+        IsUnion before.numbers sent.numbers numbers → (R : ReplicaDef) → MergesAbove w.program R before.state sent.state budget → HappensAbove w w.program R (event.Deliver k r) budget
+    above_delivery before sent numbers at from union R above =
+        let next : Version = record { numbers = numbers; state = above.value } in
+        record {
+          calls = above.calls;
+          new = with_version w r next;
+          answer = None;
+          happens = deliver before sent next at from above.merges union refl refl;
+          above = above.above;
+        }
+
+    pub deliver_ends : (before sent : Version) (numbers : List ℕ) → slice_get w.replicas r ≡ Some before → slice_get w.messages k ≡ Some sent →
+        IsUnion before.numbers sent.numbers numbers → (end : RunEnd) →
+        ((P : Program) (R : ReplicaDef) → Serves P R m → IsIn P R.state before.state → IsIn P R.state sent.state → MergesWithin P R before.state sent.state budget (Err end)) →
+        (result : Result Version RunEnd) → IsErr result × IsErrAnd result (λ x. x ≡ end) → (R : ReplicaDef) → Runs w w.program R → Delivers w R k r budget result
+    deliver_ends before sent numbers at from union end run (Ok next) ended = let wrong : false ≡ true = ended.0 in absurd (false≢true wrong)
+    deliver_ends before sent numbers at from union end run (Err ends.NoMemory) ended = λ R runs. tt
+    deliver_ends before sent numbers at from union end run (Err ends.Spent) ended =
+        let here : MergesWithin w.program kept.replica before.state sent.state budget (Err end) =
+        run w.program kept.replica kept.serves (kept.replicas.each r before at).typed (kept.messages.each k sent from).typed in
+        let spent : MergesWithin w.program kept.replica before.state sent.state budget (Err ends.Spent) =
+        subst (λ (x : RunEnd). MergesWithin w.program kept.replica before.state sent.state budget (Err x)) (sym ended.1) here in
+        own_replica (λ (R : ReplicaDef). HappensAbove w w.program R (event.Deliver k r) budget) (above_delivery before sent numbers at from union kept.replica spent)
+
+    delivery_sound : (next : Version) → IsDelivered w kept.replica k r budget next → IsSound w.program kept.replica w.updates next
+    delivery_sound next it = record {
+      typed = it.merged.typed;
+      rising = it.numbers.rising;
+      below = λ n there. elim ((it.numbers.each n).0 there) [
+        | inl mine ↦ (kept.replicas.each r it.old it.is_old).below n mine
+        | inr got ↦ (kept.messages.each k it.sent it.is_sent).below n got
+      ];
+    }
+
+    pub deliver_kept : (next : Version) (holdings : Holdings) → w.events < EVENTS → ((R : ReplicaDef) → Runs w w.program R → IsDelivered w R k r budget next) →
+        holdings ≡ record { replicas = slice_set w.replicas r next; messages = w.messages } → IsKept (standing_of w.program w.declaration holdings w.updates (w.events + 1)) m
+    deliver_kept next holdings room it is =
+        let one : IsSound w.program kept.replica w.updates next = delivery_sound next (it kept.replica own_runs) in
+        let so_far : w.updates ≤ w.events = kept.few_updates in
+        let messages : length w.messages ≤ w.events = kept.few_messages in
+        subst (λ (h : Holdings). IsKept (standing_of w.program w.declaration h w.updates (w.events + 1)) m) (sym is) (record {
+          replica = kept.replica;
+          declared = kept.declared;
+          serves = kept.serves;
+          replicas = changed_sound w.updates w.replicas r next kept.replicas one;
+          messages = kept.messages;
+          many = subst (λ (n : ℕ). n ≤ REPLICAS) (sym (length_set w.replicas r next)) kept.many;
+          few_updates = omega (arith, so_far);
+          few_messages = omega (arith, messages);
+          few_events = omega (arith, room);
+        })
+
+    pub deliver_taken : (next : Version) (holdings : Holdings) → ((R : ReplicaDef) → Runs w w.program R → IsDelivered w R k r budget next) →
+        holdings ≡ record { replicas = slice_set w.replicas r next; messages = w.messages } → (P : Program) (R : ReplicaDef) → Runs w P R →
+        HappensWithin w P R (event.Deliver k r) budget (standing_of w.program w.declaration holdings w.updates (w.events + 1)) None
+    deliver_taken next holdings it is =
+        let new : Standing = standing_of w.program w.declaration holdings w.updates (w.events + 1) in
+        let same : new ≡ with_version w r next = ap (λ (h : Holdings). standing_of w.program w.declaration h w.updates (w.events + 1)) is in
+        at_programs w (λ P R. HappensWithin w P R (event.Deliver k r) budget new None)
+        (λ R runs. let d = it R runs in
+        record {
+          calls = d.merged.calls;
+          happens = deliver d.old d.sent next d.is_old d.is_sent d.merged.merges d.numbers same refl;
+          within = d.merged.within;
+        })
+
+  -- The world after a sending.
+  pub send_kept : (r : ℕ) (old next : Holdings) → old.replicas ≡ w.replicas → old.messages ≡ w.messages → w.events < EVENTS → Sends old r next →
+      IsKept (standing_of w.program w.declaration next w.updates (w.events + 1)) m
+  send_kept r old next replicas messages room sends =
+      let so_far : w.updates ≤ w.events = kept.few_updates in
+      let few : length w.messages ≤ w.events = kept.few_messages in
+      let longer : length (w.messages ++ sends.version ∷ []) ≡ length w.messages + 1 = length-append w.messages (sends.version ∷ []) in
+      let at : slice_get w.replicas r ≡ Some sends.version = ap (λ (vs : List Version). slice_get vs r) (sym replicas) ∙ sends.is_version in
+      let is : next ≡ record { replicas = w.replicas; messages = w.messages ++ sends.version ∷ [] } =
+      sends.added ∙ (λ i. record { replicas = replicas i; messages = messages i ++ sends.version ∷ [] }) in
+      subst (λ (h : Holdings). IsKept (standing_of w.program w.declaration h w.updates (w.events + 1)) m) (sym is) (record {
+        replica = kept.replica;
+        declared = kept.declared;
+        serves = kept.serves;
+        replicas = kept.replicas;
+        messages = record {
+          each = λ i version there. elim (last_or_before w.messages sends.version i version there) [
+            | inl before ↦ kept.messages.each i version before
+            | inr last ↦ subst (IsSound w.program kept.replica w.updates) (sym last.1) (kept.replicas.each r sends.version at)
+          ];
+        };
+        many = kept.many;
+        few_updates = omega (arith, so_far);
+        few_messages = omega (arith, few, longer);
+        few_events = omega (arith, room);
+      })
+
+  -- The world after a show.
+  pub show_kept : w.events < EVENTS → IsKept (record w { events = w.events + 1 }) m
+  show_kept room =
+      let so_far : w.updates ≤ w.events = kept.few_updates in
+      let few : length w.messages ≤ w.events = kept.few_messages in
+      record {
+        replica = kept.replica;
+        declared = kept.declared;
+        serves = kept.serves;
+        replicas = kept.replicas;
+        messages = kept.messages;
+        many = kept.many;
+        few_updates = omega (arith, so_far);
+        few_messages = omega (arith, few);
+        few_events = omega (arith, room);
+      }
+
+pub send_taken : (w : Standing) (r budget : ℕ) (old next : Holdings) → old.replicas ≡ w.replicas → old.messages ≡ w.messages → Sends old r next → (P : Program) (R : ReplicaDef) →
+    HappensWithin w P R (event.Send r) budget (standing_of w.program w.declaration next w.updates (w.events + 1)) None
+send_taken w r budget old next replicas messages sends P R =
+    let at : slice_get w.replicas r ≡ Some sends.version = ap (λ (vs : List Version). slice_get vs r) (sym replicas) ∙ sends.is_version in
+    let is : next ≡ record { replicas = w.replicas; messages = w.messages ++ sends.version ∷ [] } =
+    sends.added ∙ (λ i. record { replicas = replicas i; messages = messages i ++ sends.version ∷ [] }) in
+    let new : standing_of w.program w.declaration next w.updates (w.events + 1) ≡ record w { messages = w.messages ++ sends.version ∷ []; events = w.events + 1 } =
+    ap (λ (h : Holdings). standing_of w.program w.declaration h w.updates (w.events + 1)) is in
+    record { calls = 0; happens = send sends.version at new refl refl; within = omega arith }
+
+pub show_taken : (w : Standing) (r budget : ℕ) (new : Standing) (shown : Shown) → IsShown w r shown → new ≡ record w { events = w.events + 1 } → (P : Program) (R : ReplicaDef) →
+    HappensWithin w P R (event.Show r) budget new (Some shown)
+show_taken w r budget new shown it is P R =
+    record { calls = 0; happens = show it.version it.is_version is refl (ap (λ (s : Shown). Some s) it.is); within = omega arith }
+
+pub shown_so : (w : Standing) (r : ℕ) (version : Version) (slice numbers : List ℕ) (value : Value) → slice_get w.replicas r ≡ Some version → slice ≡ version.numbers → numbers ≡ slice →
+    value ≡ version.state → IsShown w r (record { replica = r; numbers = numbers; value = value })
+shown_so w r version slice numbers value at lent copied state =
+    record { version = version; is_version = at; is = λ i. record { replica = r; numbers = (copied ∙ lent) i; value = state i } }

@@ -1,5 +1,6 @@
 //! Replicas that run over events.
 use crate::first::first_value;
+use crate::laws::{held_by_cases, join_of_a_set};
 use crate::merge::Merge;
 use crate::shown::Shown;
 use crate::unions::{union, with_last};
@@ -117,11 +118,11 @@ impl<'a> World<'a> {
         &self.versions.replica(replica as usize).state
     }
 
-    /// The world's program is well-founded, and its declaration is typed there.
+    /// The world's program is checked, its declaration is typed there, and its versions are sound.
     fn founded(&self)
         ensures { IsFounded self.now }
     {
-        let _declaration = self.declaration;
+        let _program = self.checked.program();
     }
 
     /// The replica's version once the value is contributed there: its state merged with the value, and the next update's number behind
@@ -246,6 +247,9 @@ impl<'a> World<'a> {
         ensures stands { (P : AnyProgram) (R : AnyReplica) (count : ℕ) (events : List AnyEvent) (i : ℕ) → StandsFor P R count events i self.old → MergeJoins P R → MayHappen P R count events → slice_get events i ≡ Some event.now → GoesOn P R count events i budget self.new result }
     {
         each_call_has_value();
+        each_term_has_value();
+        held_by_cases();
+        join_of_a_set();
         self.founded();
         match event {
             Event::Update { replica, value } => self.update(alloc, *replica, value, budget),
