@@ -11,3 +11,4 @@ pub mod Changes
 pub mod JoinSteps
 pub mod GoingOn
 pub mod WorldSteps
+pub mod StartSteps
