@@ -4,3 +4,6 @@ pub mod Places
 pub mod Outputs
 pub mod OneOutput
 pub mod Needs
+pub mod MergeFunctions
+pub mod DeclaredMerges
+pub mod DeclaredReplicas
