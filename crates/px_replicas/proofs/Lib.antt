@@ -7,3 +7,4 @@ pub mod Needs
 pub mod MergeFunctions
 pub mod DeclaredMerges
 pub mod DeclaredReplicas
+pub mod JoinOfSets
