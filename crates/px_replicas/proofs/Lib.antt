@@ -8,3 +8,4 @@ pub mod MergeFunctions
 pub mod DeclaredMerges
 pub mod DeclaredReplicas
 pub mod JoinOfSets
+pub mod HeldCases
