@@ -9,3 +9,4 @@ pub mod DeclaredMerges
 pub mod DeclaredReplicas
 pub mod JoinOfSets
 pub mod HeldCases
+pub mod Scheduled
