@@ -10,3 +10,12 @@ pub mod DeclaredReplicas
 pub mod JoinOfSets
 pub mod HeldCases
 pub mod Scheduled
+pub mod UnionSteps
+pub mod FirstSteps
+pub mod MergeTyping
+pub mod MergeSteps
+pub mod VersionSteps
+pub mod Changes
+pub mod JoinSteps
+pub mod GoingOn
+pub mod WorldSteps

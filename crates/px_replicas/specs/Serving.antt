@@ -12,6 +12,7 @@ use Rattle.px_terms.specs.declared.program.Program.{Program}
 use Rattle.px_terms.specs.Values.{IsIn}
 use Rattle.px_terms.specs.Extending.{IsWellFounded}
 use Rattle.px_terms.specs.TypedPrograms.{IsTypedReplica}
+use Rattle.px_descent.specs.Checked.{IsChecked}
 use Rattle.px_machine.specs.declared.code.Code.{Code}
 use Rattle.px_machine.specs.declared.run_end.RunEnd.{RunEnd}
 use Rattle.px_machine.specs.declared.run_end.RunEnd.TheVariants as ends
@@ -114,10 +115,11 @@ abbrev pub standing_of : Program → ℕ → Holdings → ℕ → ℕ → Standi
 standing_of P declaration holdings updates events =
     record { program = P; declaration = declaration; replicas = holdings.replicas; messages = holdings.messages; updates = updates; events = events }
 
--- The world's program is typed and descends, and its declaration is typed there.
+-- The world's program is checked, typed and descends, its declaration is typed there, and its versions are sound.
 pub record IsFounded (w : Standing) : Type 0 where
   pub replica : ReplicaDef
   pub runs : Runs w w.program replica
+  pub checked : IsChecked w.program
   pub founded : IsWellFounded w.program
   pub typed : IsTypedReplica w.program replica
   pub replicas : AreSound w.program replica w.updates w.replicas

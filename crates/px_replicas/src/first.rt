@@ -24,7 +24,7 @@ fn count(fields: usize) -> Result<u32, NoMemory>
 /// Adds the cells of a term that is built of constructors and literals alone.
 #[cycle(first)]
 fn push_cells(cells: &mut Items<Cell>, term: &Term) -> Result<(), NoMemory>
-    requires { IsBuiltLayer (out-Term term.now) }
+    requires built { IsBuiltLayer (out-Term term.now) }
     ensures { OnOk result (cells.new ≡ cells.old ++ preorder (built_value term.now)) }
 {
     match term {
@@ -52,7 +52,7 @@ fn push_cells(cells: &mut Items<Cell>, term: &Term) -> Result<(), NoMemory>
 /// Adds the cells of such terms, one after the other.
 #[cycle(first)]
 fn push_all(cells: &mut Items<Cell>, terms: &[Term]) -> Result<(), NoMemory>
-    requires { AreBuilt terms.now }
+    requires built { AreBuilt terms.now }
     ensures { OnOk result (cells.new ≡ cells.old ++ preorders (built_values terms.now)) }
 {
     for term in terms {

@@ -23,12 +23,13 @@ pub(crate) fn union(alloc: Global, one: &[u32], other: &[u32]) -> Result<Items<u
         if *next < *first {
             both.push(*next)?;
             right = more;
-        } else {
-            if *next == *first {
-                right = more;
-            }
+        } else if *first < *next {
             both.push(*first)?;
             left = others;
+        } else {
+            both.push(*first)?;
+            left = others;
+            right = more;
         }
     }
     push_all(&mut both, left)?;
