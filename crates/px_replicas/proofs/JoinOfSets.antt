@@ -10,6 +10,7 @@ use Rattle.px_terms.specs.TypedPrograms.{IsTypedReplica}
 use Rattle.px_terms.specs.Extending.{IsWellFounded}
 use Rattle.px_totality.specs.Laws.{ExactlyOne}
 use Rattle.px_totality.proofs.Unique.{unique}
+use Rattle.px_totality.proofs.EachHasValue.{each_call}
 use Rattle.px_schedule.specs.declared.schedule.Event.{Event}
 use Rattle.px_schedule.specs.declared.schedule.Event.TheVariants.{Update}
 use Rattle.px_replicas.specs.Joins.{IsMerged, IsContributed, Gathers, done, more, IsJoin, Commute, Associate, MergeJoins}
@@ -19,7 +20,7 @@ use Rattle.px_replicas.proofs.Semilattices.{Merged}
 use Rattle.px_replicas.proofs.Semilattices as semilattice
 use Rattle.px_replicas.proofs.RisingLists.{In, in_contains, contains_in}
 use Rattle.px_replicas.proofs.Outputs.{one_contributed, one_merge}
-use Rattle.px_replicas.proofs.MergeFunctions.{merge_is, merged}
+use Rattle.px_replicas.proofs.MergeTyping.{merge_gives}
 use Rattle.px_replicas.proofs.DeclaredReplicas.{founded_of, typed_of, first_is_state}
 
 module _ (P : Program) (R : ReplicaDef) (founded : IsWellFounded P) (typed : IsTypedReplica P R) (joins : MergeJoins P R) where
@@ -31,7 +32,7 @@ module _ (P : Program) (R : ReplicaDef) (founded : IsWellFounded P) (typed : IsT
 
   total : (a b : Value) → D a → D b → Merged D M a b
   total a b da db =
-      let it : ExactlyOne P R.state (Gives P R.merge R.funs (a ∷ b ∷ [])) = merged P R (merge_is P R typed) founded a b da db in
+      let it : ExactlyOne P R.state (Gives P R.merge R.funs (a ∷ b ∷ [])) = merge_gives P R (each_call P founded) typed a b da db in
       record { value = it.value; there = it.in_type; is = record { calls = it.count; merges = it.given } }
 
   one : (a b v w : Value) → M a b v → M a b w → v ≡ w

@@ -4,15 +4,15 @@ pub mod Places
 pub mod Outputs
 pub mod OneOutput
 pub mod Needs
+pub mod HeldCases
+pub mod MergeTyping
 pub mod MergeFunctions
 pub mod DeclaredMerges
 pub mod DeclaredReplicas
 pub mod JoinOfSets
-pub mod HeldCases
 pub mod Scheduled
 pub mod UnionSteps
 pub mod FirstSteps
-pub mod MergeTyping
 pub mod MergeSteps
 pub mod VersionSteps
 pub mod Changes
