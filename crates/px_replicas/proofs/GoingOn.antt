@@ -1,5 +1,5 @@
 -- A world that stands for a schedule stands for it after one event more.
-use Rattle.std.proofs.Common.{◌≡◌, ◌≢◌, ◌⊎◌, ◌↔◌, inl, inr, ℕ, zero, suc, ◌+◌, ◌<◌, ◌≤◌, Bool, true, false, cond, List, [], ◌∷◌, ◌++◌, length, take, count_by, get_or, Option, Some, None, Result, Ok, Err, slice_get, slice_set, Contains, refl, sym, ap, ◌∙◌, subst, arith}
+use Rattle.std.proofs.Common.{◌≡◌, ◌≢◌, ◌⊎◌, ◌↔◌, inl, inr, ℕ, zero, suc, ◌+◌, ◌<◌, ◌≤◌, Bool, cond, List, [], ◌∷◌, ◌++◌, length, take, count_by, Option, Some, None, Result, Ok, Err, slice_get, Contains, refl, sym, ap, ◌∙◌, subst, arith}
 use Rattle.std.proofs.lemmas.Bool.{cases_lt}
 use Rattle.std.proofs.lemmas.List.{length-append}
 use Rattle.std.proofs.lemmas.Option.{slice_get_within}
@@ -17,13 +17,13 @@ use Rattle.px_schedule.specs.declared.schedule.Event.{Event}
 use Rattle.px_schedule.specs.declared.schedule.Event.TheVariants.{Update, Send, Deliver, Show}
 use Rattle.px_replicas.specs.declared.shown.Shown.{Shown}
 use Rattle.px_replicas.specs.declared.version.Version.{Version}
-use Rattle.px_replicas.specs.Held.{is_update, is_send, updates_before, sends_before, IsUpdateAt, IsSendAt, Holds, AreRising, AreHeld, AreSent, IsUnion}
+use Rattle.px_replicas.specs.Held.{is_update, is_send, updates_before, sends_before, IsSendAt, Holds, AreHeld, IsUnion}
 use Rattle.px_replicas.specs.Joins.{Merges, IsMerged, IsContributed, IsJoin, IsState, IsMessage, MergeJoins}
-use Rattle.px_replicas.specs.Events.{MayHappen, Needs, at_update, at_delivery, at_send, at_show, IsWithin, IsAbove}
-use Rattle.px_replicas.specs.Lines.{IsShownAt, IsAnswer}
-use Rattle.px_replicas.specs.Worlds.{Standing, Runs, with_version, Happens, update, send, deliver, show, HappensWithin, HappensAbove, Takes, StandsFor, GoesOn}
+use Rattle.px_replicas.specs.Events.{MayHappen, Needs, at_update, at_delivery, at_send, at_show}
+use Rattle.px_replicas.specs.Lines.{IsAnswer}
+use Rattle.px_replicas.specs.Worlds.{Standing, Runs, with_version, Happens, update, send, deliver, show, HappensAbove, Takes, StandsFor, GoesOn}
 use Rattle.px_replicas.specs.Laws.{HeldByCases, JoinOfASet}
-use Rattle.px_replicas.specs.Serving.{IsSound, AreSound, IsFounded}
+use Rattle.px_replicas.specs.Serving.{AreSound, IsFounded}
 use Rattle.px_replicas.proofs.RisingLists.{In, Rises, in_contains, contains_in, pairs_rise, rise_from_pairs, in_append, in_front, in_back, rises_push}
 use Rattle.px_replicas.proofs.Changes.{last_or_before, changed_or_kept, length_set}
 use Rattle.px_replicas.proofs.JoinSteps.{one_more, union_joined}
@@ -151,11 +151,11 @@ module _ (P : Program) (R : ReplicaDef) (count : ℕ) (events : List Event) (i :
         messages = λ k version there. elim (last_or_before w.messages old k version there) [
           | inl before ↦ stands.messages k version before
           | inr last ↦
-            let it : IsMessage P R events k old.numbers old.state = record {
-              sent = record { sending = i; sender = r; sends = record { stands = at; number = last.0 ∙ stands.sent }; held = state.held };
-              join = state.join;
-            } in
-            subst (λ (v : Version). IsMessage P R events k v.numbers v.state) (sym last.1) it
+              let it : IsMessage P R events k old.numbers old.state = record {
+                sent = record { sending = i; sender = r; sends = record { stands = at; number = last.0 ∙ stands.sent }; held = state.held };
+                join = state.join;
+              } in
+              subst (λ (v : Version). IsMessage P R events k v.numbers v.state) (sym last.1) it
         ];
         updates = omega (arith, updates);
         taken = one_later;
@@ -170,8 +170,8 @@ module _ (P : Program) (R : ReplicaDef) (count : ℕ) (events : List Event) (i :
     many = length_set w.replicas r next ∙ stands.many;
     replicas = λ q version there. elim (changed_or_kept w.replicas r next q version there) [
       | inl changed ↦
-        let here : IsState P R events (i + 1) q next.numbers next.state = subst (λ (p : ℕ). IsState P R events (i + 1) p next.numbers next.state) (sym changed.0) state in
-        subst (λ (v : Version). IsState P R events (i + 1) q v.numbers v.state) (sym changed.1) here
+          let here : IsState P R events (i + 1) q next.numbers next.state = subst (λ (p : ℕ). IsState P R events (i + 1) p next.numbers next.state) (sym changed.0) state in
+          subst (λ (v : Version). IsState P R events (i + 1) q v.numbers v.state) (sym changed.1) here
       | inr kept ↦ still_state P R events i q version.numbers version.state (stands.replicas q version kept.1) (λ m. elsewhere q m kept.0)
     ];
     sent = sent;
@@ -199,14 +199,17 @@ module _ (P : Program) (R : ReplicaDef) (count : ℕ) (events : List Event) (i :
       where
         same : (n : ℕ) → Holds events n (i + 1) r ↔ (Holds events n i r ⊎ ((r ≡ r) × (n ≡ updates_before events i)))
         same n = (law.goes_on events i).at_update r b at r n
+
         last : (n : ℕ) → In (w.updates ∷ []) n → n ≡ w.updates
         last n (inl e) = e
         last n (inr wrong) = absurd wrong
+
         to : IsState P R events i r old.numbers old.state → (n : ℕ) → Contains (old.numbers ++ w.updates ∷ []) n → Holds events n (i + 1) r
         to state n h = elim (in_append old.numbers (w.updates ∷ []) n (contains_in (old.numbers ++ w.updates ∷ []) n h)) [
           | inl k ↦ (same n).1 (inl ((state.held.each n).0 (in_contains old.numbers n k)))
           | inr k ↦ (same n).1 (inr (refl, last n k ∙ stands.updates))
         ]
+
         from : IsState P R events i r old.numbers old.state → (n : ℕ) → Holds events n (i + 1) r → Contains (old.numbers ++ w.updates ∷ []) n
         from state n h = elim ((same n).0 h) [
           | inl k ↦ in_contains (old.numbers ++ w.updates ∷ []) n (in_front old.numbers (w.updates ∷ []) n (contains_in old.numbers n ((state.held.each n).1 k)))
@@ -227,11 +230,11 @@ module _ (P : Program) (R : ReplicaDef) (count : ℕ) (events : List Event) (i :
     sent_before k sending sender version there sends = elim (cases_lt sending i) [
       | inl lt ↦ lt
       | inr late ↦
-        let rise : sends_before events i ≤ sends_before events sending = counts_rise is_send events i sending late in
-        let within : k < length w.messages = slice_get_within w.messages k version there in
-        let so_far : length w.messages ≡ sends_before events i = stands.sent in
-        let number : k ≡ sends_before events sending = sends.number in
-        absurd (omega (arith, rise, within, so_far, number))
+          let rise : sends_before events i ≤ sends_before events sending = counts_rise is_send events i sending late in
+          let within : k < length w.messages = slice_get_within w.messages k version there in
+          let so_far : length w.messages ≡ sends_before events i = stands.sent in
+          let number : k ≡ sends_before events sending = sends.number in
+          absurd (omega (arith, rise, within, so_far, number))
     ]
 
     deliver_state : (k r c : ℕ) (old sent next : Version) → slice_get events i ≡ Some (Deliver k r) → slice_get w.replicas r ≡ Some old → slice_get w.messages k ≡ Some sent →
@@ -247,17 +250,21 @@ module _ (P : Program) (R : ReplicaDef) (count : ℕ) (events : List Event) (i :
       where
         state : IsState P R events i r old.numbers old.state
         state = stands.replicas r old is_old
+
         message : IsMessage P R events k sent.numbers sent.state
         message = stands.messages k sent is_sent
+
         same : (n : ℕ) → Holds events n (i + 1) r ↔ (Holds events n i r ⊎ ((r ≡ r) × Contains sent.numbers n))
         same n =
             (law.goes_on events i).at_delivery k r sent.numbers message.sent at
             (sent_before k message.sent.sending message.sent.sender sent is_sent message.sent.sends) r n
+
         to : (n : ℕ) → Contains next.numbers n → Holds events n (i + 1) r
         to n h = elim ((union.each n).0 h) [
           | inl mine ↦ (same n).1 (inl ((state.held.each n).0 mine))
           | inr got ↦ (same n).1 (inr (refl, got))
         ]
+
         from : (n : ℕ) → Holds events n (i + 1) r → Contains next.numbers n
         from n h = elim ((same n).0 h) [
           | inl mine ↦ (union.each n).1 (inl ((state.held.each n).1 mine))

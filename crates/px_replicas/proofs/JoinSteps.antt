@@ -1,5 +1,5 @@
 -- Where a merge joins, the merge of the joins of two lists of updates is the join of both.
-use Rattle.std.proofs.Common.{◌≡◌, ◌⊎◌, ◌↔◌, inl, inr, ℕ, List, [], ◌∷◌, ◌++◌, Some, slice_get, Contains, refl, sym, ap, ◌∙◌, subst}
+use Rattle.std.proofs.Common.{◌≡◌, ◌⊎◌, inl, inr, ℕ, List, [], ◌∷◌, ◌++◌, Some, slice_get, Contains, refl, sym, subst}
 use Rattle.px_terms.specs.declared.term.Term.{out-Term}
 use Rattle.px_terms.specs.declared.term.Value.{Value}
 use Rattle.px_terms.specs.declared.program.ReplicaDef.{ReplicaDef}
@@ -155,12 +155,14 @@ module _ (P : Program) (R : ReplicaDef) (calls : CallsHaveValue P) (terms : Term
         | inl k ↦ in_contains (ones ++ others) n (in_front ones others n (contains_in ones n k))
         | inr k ↦ in_contains (ones ++ others) n (in_back ones others n (contains_in others n k))
       ]
+
       back : (n : ℕ) → Contains (ones ++ others) n → Contains both n
       back n h = (union.each n).1 (either n (in_append ones others n (contains_in (ones ++ others) n h)))
         where
           either : (n : ℕ) → In ones n ⊎ In others n → Contains ones n ⊎ Contains others n
           either n (inl k) = inl (in_contains ones n k)
           either n (inr k) = inr (in_contains others n k)
+
       from : (n : ℕ) → In both n → IsUpdate events n
       from n h = elim ((union.each n).0 (in_contains both n h)) [
         | inl k ↦ has_update P R events one.first a ones one.gathers n (contains_in ones n k)

@@ -1,24 +1,22 @@
 -- What a run of the merge gives.
-use Rattle.std.proofs.Common.{◌≡◌, ℕ, ◌≤◌, ◌<◌, List, [], ◌∷◌, ◌++◌, map, length, Some, Result, Ok, Err, IsErr, IsErrAnd, IfErr, slice_get, true, false, refl, sym, ap, ◌∙◌, subst}
+use Rattle.std.proofs.Common.{◌≡◌, ℕ, ◌≤◌, ◌<◌, List, [], ◌∷◌, Some, Result, Ok, Err, IsErr, IsErrAnd, slice_get, true, false, sym, ◌∙◌, subst}
 use Rattle.std.proofs.lemmas.Bool.{false≢true}
 use Rattle.px_base.specs.declared.head.Head.TheVariants as head
 use Rattle.px_terms.specs.declared.types.Fun.{Fun}
 use Rattle.px_terms.specs.declared.term.Value.{Value}
 use Rattle.px_terms.specs.declared.program.ReplicaDef.{ReplicaDef}
 use Rattle.px_terms.specs.declared.program.Program.{Program}
-use Rattle.px_terms.specs.Types.{tys_instance}
-use Rattle.px_terms.specs.Values.{IsIn, AreIn}
+use Rattle.px_terms.specs.Values.{IsIn}
 use Rattle.px_terms.specs.Meaning.{Gives}
 use Rattle.px_totality.specs.Laws.{EachCallHasValue, ExactlyOne}
 use Rattle.px_machine.specs.declared.code.CallTarget.{CallTarget}
-use Rattle.px_machine.specs.declared.runs.Done.{Done}
 use Rattle.px_machine.specs.declared.run_end.RunEnd.{RunEnd}
 use Rattle.px_machine.specs.declared.run_end.RunEnd.TheVariants as ends
 use Rattle.px_machine.specs.Machine.{RunGives}
 use Rattle.px_machine.specs.Standing.{FitsDefinition, FitsCode, targets_of}
 use Rattle.px_replicas.specs.declared.merge.Merge.{Merge}
 use Rattle.px_replicas.specs.Joins.{Merges}
-use Rattle.px_replicas.specs.Serving.{Serves, CanMerge, MergesTo, MergesAbove, MergesWithin}
+use Rattle.px_replicas.specs.Serving.{Serves, MergesTo, MergesWithin}
 use Rattle.px_replicas.proofs.MergeTyping.{merge_defined, functions_fit, states_fit, merge_gives}
 
 -- copies of two states, as a list

@@ -1,5 +1,5 @@
 -- A world at its start.
-use Rattle.std.proofs.Common.{◌≡◌, ℕ, zero, suc, ◌+◌, ◌<◌, ◌≤◌, List, [], ◌∷◌, length, replicate, Some, slice_get, Contains, refl, sym, ap, ◌∙◌, subst, arith}
+use Rattle.std.proofs.Common.{◌≡◌, ℕ, zero, suc, ◌<◌, ◌≤◌, List, [], length, replicate, Some, slice_get, Contains, refl, sym, ap, ◌∙◌, subst, arith}
 use Rattle.px_base.specs.declared.limits.TheConstants.{REPLICAS}
 use Rattle.px_base.specs.declared.head.Head.TheVariants as head
 use Rattle.px_terms.specs.declared.program.ReplicaDef.{ReplicaDef}
@@ -21,8 +21,8 @@ use Rattle.px_replicas.specs.Held.{Holds, own, received, AreHeld}
 use Rattle.px_replicas.specs.Joins.{done, IsJoin, IsState, IsMessage}
 use Rattle.px_replicas.specs.Holdings.{Holdings}
 use Rattle.px_replicas.specs.Keeping.{AreInOrder}
-use Rattle.px_replicas.specs.Worlds.{Standing, Runs, IsNew, StandsFor}
-use Rattle.px_replicas.specs.Serving.{built_value, IsMergeOf, Serves, IsSound, AreSound, IsKept, standing_of}
+use Rattle.px_replicas.specs.Worlds.{IsNew, StandsFor}
+use Rattle.px_replicas.specs.Serving.{built_value, IsMergeOf, IsSound, IsKept, standing_of}
 use Rattle.px_replicas.proofs.FirstSteps.{built_means}
 use Rattle.px_replicas.proofs.MergeTyping.{merge_defined, first_gives}
 

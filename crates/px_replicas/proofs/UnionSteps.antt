@@ -1,5 +1,5 @@
 -- Two rising lists, taken from the front into one.
-use Rattle.std.proofs.Common.{◌≡◌, ◌⊎◌, ◌↔◌, ℕ, ◌<◌, ◌≤◌, List, [], ◌∷◌, ◌++◌, refl, sym, ap, ◌∙◌, subst, inl, inr, arith, Contains, length, get_or, take, drop, ◌-◌}
+use Rattle.std.proofs.Common.{◌≡◌, ◌⊎◌, ℕ, ◌<◌, ◌≤◌, List, [], ◌∷◌, ◌++◌, refl, sym, ap, ◌∙◌, subst, inl, inr, arith, Contains, length, get_or, take, drop, ◌-◌}
 use Rattle.std.proofs.lemmas.List.{append-nil}
 use Rattle.std.proofs.Math.Seq.{take-length}
 use Rattle.px_replicas.specs.Held.{IsUnion}
@@ -89,8 +89,8 @@ pub takes_right : (one other both left right : List ℕ) (x y : ℕ) (xs ys : Li
 takes_right one other both left right x y xs ys e f lt merging =
     let m : Merging one other both (x ∷ xs) (y ∷ ys) = subst (λ (zs : List ℕ). Merging one other both (x ∷ xs) zs) f (subst (λ (zs : List ℕ). Merging one other both zs right) e merging) in
     subst (λ (zs : List ℕ). Merging one other (both ++ y ∷ []) zs ys) (sym e)
-      (takes one other both (x ∷ xs) (y ∷ ys) (x ∷ xs) ys y m (inr (inl refl)) (λ n h. (above_all y x xs m.left_rises lt n h, h)) (λ n h. (m.right_rises.0 n h, inr h))
-        m.left_rises m.right_rises.1 (λ n h. inr h) (λ n h. h))
+    (takes one other both (x ∷ xs) (y ∷ ys) (x ∷ xs) ys y m (inr (inl refl)) (λ n h. (above_all y x xs m.left_rises lt n h, h)) (λ n h. (m.right_rises.0 n h, inr h))
+    m.left_rises m.right_rises.1 (λ n h. inr h) (λ n h. h))
 
 -- the left list's first number is the lesser
 pub takes_left : (one other both left right : List ℕ) (x y : ℕ) (xs ys : List ℕ) → left ≡ x ∷ xs → right ≡ y ∷ ys → x < y → Merging one other both left right →
@@ -98,8 +98,8 @@ pub takes_left : (one other both left right : List ℕ) (x y : ℕ) (xs ys : Lis
 takes_left one other both left right x y xs ys e f lt merging =
     let m : Merging one other both (x ∷ xs) (y ∷ ys) = subst (λ (zs : List ℕ). Merging one other both (x ∷ xs) zs) f (subst (λ (zs : List ℕ). Merging one other both zs right) e merging) in
     subst (λ (zs : List ℕ). Merging one other (both ++ x ∷ []) xs zs) (sym f)
-      (takes one other both (x ∷ xs) (y ∷ ys) xs (y ∷ ys) x m (inl (inl refl)) (λ n h. (m.left_rises.0 n h, inr h)) (λ n h. (above_all x y ys m.right_rises lt n h, h))
-        m.left_rises.1 m.right_rises (λ n h. h) (λ n h. inr h))
+    (takes one other both (x ∷ xs) (y ∷ ys) xs (y ∷ ys) x m (inl (inl refl)) (λ n h. (m.left_rises.0 n h, inr h)) (λ n h. (above_all x y ys m.right_rises lt n h, h))
+    m.left_rises.1 m.right_rises (λ n h. h) (λ n h. inr h))
 
 -- the first numbers are the same
 pub takes_both : (one other both left right : List ℕ) (x y : ℕ) (xs ys : List ℕ) → left ≡ x ∷ xs → right ≡ y ∷ ys → y ≡ x → Merging one other both left right →
@@ -107,7 +107,7 @@ pub takes_both : (one other both left right : List ℕ) (x y : ℕ) (xs ys : Lis
 takes_both one other both left right x y xs ys e f same merging =
     let m : Merging one other both (x ∷ xs) (y ∷ ys) = subst (λ (zs : List ℕ). Merging one other both (x ∷ xs) zs) f (subst (λ (zs : List ℕ). Merging one other both zs right) e merging) in
     takes one other both (x ∷ xs) (y ∷ ys) xs ys x m (inl (inl refl)) (λ n h. (m.left_rises.0 n h, inr h))
-      (λ n h. (let lt : y < n = m.right_rises.0 n h in let k : x < n = omega arith in k, inr h)) m.left_rises.1 m.right_rises.1 (λ n h. h) (λ n h. out n h)
+    (λ n h. (let lt : y < n = m.right_rises.0 n h in let k : x < n = omega arith in k, inr h)) m.left_rises.1 m.right_rises.1 (λ n h. h) (λ n h. out n h)
   where
     out : (n : ℕ) → In (y ∷ ys) n → (n ≡ x) ⊎ In ys n
     out n (inl k) = inl (k ∙ same)
@@ -133,6 +133,7 @@ ends_one one other both left m = record {
       | inl k ↦ elim (m.from n k) [ inl a ↦ inl (in_contains one n a) | inr b ↦ inr (in_contains other n b) ]
       | inr k ↦ inl (in_contains one n (m.of_left n k))
     ]
+
     back : (n : ℕ) → Contains one n ⊎ Contains other n → In (both ++ left) n
     back n (inl h) = elim (m.there_one n (contains_in one n h)) [ inl k ↦ in_front both left n k | inr k ↦ in_back both left n k ]
     back n (inr h) = elim (m.there_other n (contains_in other n h)) [ inl k ↦ in_front both left n k | inr k ↦ absurd k ]
@@ -148,6 +149,7 @@ ends_other one other both right m = record {
       | inl k ↦ elim (m.from n k) [ inl a ↦ inl (in_contains one n a) | inr b ↦ inr (in_contains other n b) ]
       | inr k ↦ inr (in_contains other n (m.of_right n k))
     ]
+
     back : (n : ℕ) → Contains one n ⊎ Contains other n → In (both ++ right) n
     back n (inl h) = elim (m.there_one n (contains_in one n h)) [ inl k ↦ in_front both right n k | inr k ↦ absurd k ]
     back n (inr h) = elim (m.there_other n (contains_in other n h)) [ inl k ↦ in_front both right n k | inr k ↦ in_back both right n k ]
@@ -178,7 +180,7 @@ right_next one other both [] right new p q lt m is = absurd (omega arith)
 right_next one other both (x ∷ xs) [] new p q lt m is = absurd (omega arith)
 right_next one other both (x ∷ xs) (y ∷ ys) new p q lt m is =
     subst (λ (zs : List ℕ). Merging one other zs (x ∷ xs) (take (length (y ∷ ys) - 1) (drop 1 (y ∷ ys)))) (sym is)
-      (subst (λ (zs : List ℕ). Merging one other (both ++ y ∷ []) (x ∷ xs) zs) (sym (rest_of y ys)) (takes_right one other both (x ∷ xs) (y ∷ ys) x y xs ys refl refl lt m))
+    (subst (λ (zs : List ℕ). Merging one other (both ++ y ∷ []) (x ∷ xs) zs) (sym (rest_of y ys)) (takes_right one other both (x ∷ xs) (y ∷ ys) x y xs ys refl refl lt m))
 
 pub left_next : (one other both left right new : List ℕ) → 1 ≤ length left → 1 ≤ length right → get_or left 0 0 < get_or right 0 0 → Merging one other both left right →
     new ≡ both ++ get_or left 0 0 ∷ [] → Merging one other new (take (length left - 1) (drop 1 left)) right
@@ -186,7 +188,7 @@ left_next one other both [] right new p q lt m is = absurd (omega arith)
 left_next one other both (x ∷ xs) [] new p q lt m is = absurd (omega arith)
 left_next one other both (x ∷ xs) (y ∷ ys) new p q lt m is =
     subst (λ (zs : List ℕ). Merging one other zs (take (length (x ∷ xs) - 1) (drop 1 (x ∷ xs))) (y ∷ ys)) (sym is)
-      (subst (λ (zs : List ℕ). Merging one other (both ++ x ∷ []) zs (y ∷ ys)) (sym (rest_of x xs)) (takes_left one other both (x ∷ xs) (y ∷ ys) x y xs ys refl refl lt m))
+    (subst (λ (zs : List ℕ). Merging one other (both ++ x ∷ []) zs (y ∷ ys)) (sym (rest_of x xs)) (takes_left one other both (x ∷ xs) (y ∷ ys) x y xs ys refl refl lt m))
 
 pub both_next : (one other both left right new : List ℕ) → 1 ≤ length left → 1 ≤ length right → get_or right 0 0 ≡ get_or left 0 0 → Merging one other both left right →
     new ≡ both ++ get_or left 0 0 ∷ [] → Merging one other new (take (length left - 1) (drop 1 left)) (take (length right - 1) (drop 1 right))
@@ -194,8 +196,8 @@ both_next one other both [] right new p q same m is = absurd (omega arith)
 both_next one other both (x ∷ xs) [] new p q same m is = absurd (omega arith)
 both_next one other both (x ∷ xs) (y ∷ ys) new p q same m is =
     subst (λ (zs : List ℕ). Merging one other zs (take (length (x ∷ xs) - 1) (drop 1 (x ∷ xs))) (take (length (y ∷ ys) - 1) (drop 1 (y ∷ ys)))) (sym is)
-      (subst (λ (zs : List ℕ). Merging one other (both ++ x ∷ []) zs (take (length (y ∷ ys) - 1) (drop 1 (y ∷ ys)))) (sym (rest_of x xs))
-        (subst (λ (zs : List ℕ). Merging one other (both ++ x ∷ []) xs zs) (sym (rest_of y ys)) (takes_both one other both (x ∷ xs) (y ∷ ys) x y xs ys refl refl same m)))
+    (subst (λ (zs : List ℕ). Merging one other (both ++ x ∷ []) zs (take (length (y ∷ ys) - 1) (drop 1 (y ∷ ys)))) (sym (rest_of x xs))
+    (subst (λ (zs : List ℕ). Merging one other (both ++ x ∷ []) xs zs) (sym (rest_of y ys)) (takes_both one other both (x ∷ xs) (y ∷ ys) x y xs ys refl refl same m)))
 
 -- the end, as the code comes to it
 pub ends_left : (one other both left right more all : List ℕ) → length left < 1 → Merging one other both left right → more ≡ both ++ left → all ≡ more ++ right → IsUnion one other all

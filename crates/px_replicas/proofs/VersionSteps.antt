@@ -1,11 +1,11 @@
 -- What replicas and messages hold, where versions are kept once and named by number.
-use Rattle.std.proofs.Common.{◌≡◌, ◌≢◌, ℕ, zero, suc, ◌+◌, ◌<◌, ◌≤◌, Bool, false, List, [], ◌∷◌, ◌++◌, length, map, replicate, get_or, Some, slice_get, slice_set, slice_index_or, refl, sym, ap, ◌∙◌, subst, arith}
+use Rattle.std.proofs.Common.{◌≡◌, ◌≢◌, ℕ, zero, suc, ◌<◌, false, List, [], ◌∷◌, ◌++◌, length, map, replicate, get_or, Some, slice_get, slice_set, refl, sym, ap, ◌∙◌, subst, arith}
 use Rattle.std.proofs.lemmas.List.{map-set, map-append, get_or-set_same, get_or-set_other, get_or_append_left}
 use Rattle.std.proofs.Math.Seq.{get_or-append_seam}
 use Rattle.px_replicas.specs.declared.version.Version.{Version}
 use Rattle.px_replicas.specs.declared.versions.Kept.{Kept}
 use Rattle.px_replicas.specs.Holdings.{Holdings, Sends}
-use Rattle.px_replicas.specs.Keeping.{nothing, kept_at, version_at, holdings_of, AreKept, AreNamed, IsAlone, IsNoted}
+use Rattle.px_replicas.specs.Keeping.{nothing, kept_at, version_at, holdings_of, AreNamed, IsAlone, IsNoted}
 
 -- functions that agree on a list's items
 map_alike : {B : Type 0} (f g : ℕ → B) (xs : List ℕ) → ((i : ℕ) → i < length xs → g (get_or xs i 0) ≡ f (get_or xs i 0)) → map g xs ≡ map f xs

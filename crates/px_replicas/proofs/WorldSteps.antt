@@ -1,5 +1,5 @@
 -- What the functions of a world do, over plain values: `w` is what a world's fields show.
-use Rattle.std.proofs.Common.{◌≡◌, ◌≢◌, ◌⊎◌, inl, inr, ℕ, zero, suc, ◌+◌, ◌<◌, ◌≤◌, false, true, List, [], ◌∷◌, ◌++◌, length, replicate, Option, Some, None, Result, Ok, Err, IsErr, IsErrAnd, slice_get, slice_set, Contains, refl, sym, ap, ◌∙◌, subst, arith}
+use Rattle.std.proofs.Common.{◌≡◌, inl, inr, ℕ, ◌+◌, ◌<◌, ◌≤◌, false, true, List, [], ◌∷◌, ◌++◌, length, Some, None, Result, Ok, Err, IsErr, IsErrAnd, slice_get, slice_set, Contains, refl, sym, ap, ◌∙◌, subst, arith}
 use Rattle.std.proofs.lemmas.Bool.{false≢true}
 use Rattle.std.proofs.lemmas.List.{length-append}
 use Rattle.px_base.specs.declared.limits.TheConstants.{EVENTS, REPLICAS}
@@ -10,7 +10,6 @@ use Rattle.px_terms.specs.Values.{IsIn}
 use Rattle.px_descent.specs.Checked.{IsChecked}
 use Rattle.px_machine.specs.declared.run_end.RunEnd.{RunEnd}
 use Rattle.px_machine.specs.declared.run_end.RunEnd.TheVariants as ends
-use Rattle.px_schedule.specs.declared.schedule.Event.{Event}
 use Rattle.px_schedule.specs.declared.schedule.Event.TheVariants as event
 use Rattle.px_replicas.specs.declared.merge.Merge.{Merge}
 use Rattle.px_replicas.specs.declared.shown.Shown.{Shown}
@@ -18,7 +17,7 @@ use Rattle.px_replicas.specs.declared.version.Version.{Version}
 use Rattle.px_replicas.specs.Held.{IsUnion}
 use Rattle.px_replicas.specs.Holdings.{Holdings, Sends}
 use Rattle.px_replicas.specs.Keeping.{AreInOrder}
-use Rattle.px_replicas.specs.Worlds.{Standing, Runs, Fits, Happens, HappensWithin, HappensAbove, Takes, with_version, update, send, deliver, show}
+use Rattle.px_replicas.specs.Worlds.{Standing, Runs, HappensWithin, HappensAbove, with_version, update, send, deliver, show}
 use Rattle.px_replicas.specs.Serving.{Serves, CanMerge, MergesTo, MergesAbove, MergesWithin, IsSound, AreSound, IsKept, standing_of, IsFounded, IsOfState, IsUpdated, Updates, IsDelivered, Delivers, IsShown}
 use Rattle.px_replicas.proofs.Changes.{last_or_before, changed_or_kept, length_set}
 use Rattle.px_replicas.proofs.RisingLists.{In, Rises, in_contains, contains_in, pairs_rise, rise_from_pairs, in_append, rises_push}
@@ -131,6 +130,7 @@ module _ (w : Standing) (m : Merge) (kept : IsKept w m) where
         last : (n : ℕ) → In (w.updates ∷ []) n → n ≡ w.updates
         last n (inl same) = same
         last n (inr wrong) = absurd wrong
+
         by : IsSound w.program kept.replica w.updates it.old → (n : ℕ) → Contains (it.old.numbers ++ w.updates ∷ []) n → n < w.updates + 1
         by sound n there = elim (in_append it.old.numbers (w.updates ∷ []) n (contains_in (it.old.numbers ++ w.updates ∷ []) n there)) [
           | inl k ↦ let lt : n < w.updates = sound.below n (in_contains it.old.numbers n k) in omega (arith, lt)

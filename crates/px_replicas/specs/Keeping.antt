@@ -1,5 +1,5 @@
 -- How versions are kept, and what is true of each world, for the proofs.
-use Rattle.std.specs.Prelude.{◌≡◌, ◌≢◌, ℕ, ◌+◌, ◌<◌, ◌≤◌, Bool, false, List, [], ◌∷◌, map, length, get_or, slice_index_or, Contains, Some, slice_get}
+use Rattle.std.specs.Prelude.{◌≡◌, ◌≢◌, ℕ, ◌<◌, false, List, [], map, length, get_or, slice_index_or}
 use Rattle.std.specs.List.{AllPairs}
 use Rattle.px_terms.specs.declared.term.Value.TheVariants as value
 use Rattle.px_replicas.specs.declared.version.Version.{Version}

@@ -1,8 +1,8 @@
 -- What is true of the merge that a world calls, and of each world, for the proofs.
-use Rattle.std.specs.Prelude.{◌≡◌, ℕ, ◌+◌, ◌<◌, ◌≤◌, List, [], ◌∷◌, ◌++◌, length, map, Contains, Some, slice_get, Result, Ok, Err}
+use Rattle.std.specs.Prelude.{◌≡◌, ℕ, ◌<◌, ◌≤◌, List, [], ◌∷◌, ◌++◌, length, map, Contains, Some, slice_get, Result, Ok, Err}
 use Rattle.px_base.specs.declared.head.Head.TheVariants as head
 use Rattle.px_base.specs.declared.limits.TheConstants.{EVENTS, REPLICAS}
-use Rattle.px_terms.specs.declared.term.Term.{Term, out-Term}
+use Rattle.px_terms.specs.declared.term.Term.{Term}
 use Rattle.px_terms.specs.declared.term.Term.TheOpen.{Term-F}
 use Rattle.px_terms.specs.declared.term.Term.TheFolds.{fold-Term}
 use Rattle.px_terms.specs.declared.term.Value.{Value}

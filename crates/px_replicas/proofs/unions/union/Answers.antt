@@ -1,5 +1,5 @@
-use Rattle.std.proofs.Common.{refl, arith}
-use Rattle.px_replicas.proofs.UnionSteps.{Merging, starts, right_next, left_next, both_next, ends_left, ends_right}
+use Rattle.std.proofs.Common.{arith}
+use Rattle.px_replicas.proofs.UnionSteps.{starts, right_next, left_next, both_next, ends_left, ends_right}
 use Rattle.px_replicas.proofs.unions.union.Goals.{in_default, in-len1-up+in_default-right}
 use Rattle.px_replicas.proofs.unions.union.Goals as goal
 
@@ -24,9 +24,9 @@ numbers-preserved c =
 pub returns : goal.returns
 returns c = elim c.if-left-lt1.branch [
   | in_default w ↦
-    ends_left c.args.one.now c.args.other.now c.numbers.both c.numbers.left.now c.numbers.right.now c.push_all.new.numbers c.push_all-2.new.numbers w.in_default.len_below
-    c.numbers.invariant c.in_ok-push_all.ensures c.in_ok-push_all-2.ensures
+      ends_left c.args.one.now c.args.other.now c.numbers.both c.numbers.left.now c.numbers.right.now c.push_all.new.numbers c.push_all-2.new.numbers w.in_default.len_below
+      c.numbers.invariant c.in_ok-push_all.ensures c.in_ok-push_all-2.ensures
   | in-len1-up+in_default-right w ↦
-    ends_right c.args.one.now c.args.other.now c.numbers.both c.numbers.left.now c.numbers.right.now c.push_all.new.numbers c.push_all-2.new.numbers w.in_default-right.len_below
-    c.numbers.invariant c.in_ok-push_all.ensures c.in_ok-push_all-2.ensures
+      ends_right c.args.one.now c.args.other.now c.numbers.both c.numbers.left.now c.numbers.right.now c.push_all.new.numbers c.push_all-2.new.numbers w.in_default-right.len_below
+      c.numbers.invariant c.in_ok-push_all.ensures c.in_ok-push_all-2.ensures
 ]

@@ -1,4 +1,4 @@
-use Rattle.std.proofs.Common.{◌≡◌, ◌≢◌, ℕ, ◌<◌, get_or}
+use Rattle.std.proofs.Common.{◌≢◌, ℕ, ◌<◌, get_or}
 use Rattle.px_replicas.proofs.versions.is_alone.Given as goal
 
 abbrev pub invariant-loop-other : goal.invariant-loop-other

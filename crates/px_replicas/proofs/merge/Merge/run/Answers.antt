@@ -1,4 +1,3 @@
-use Rattle.std.proofs.Common.{◌≡◌, ◌∷◌, []}
 use Rattle.px_replicas.proofs.MergeSteps.{two_states, fits_code, merged, ends_so}
 use Rattle.px_replicas.proofs.merge.Merge.run.Goals as goal
 

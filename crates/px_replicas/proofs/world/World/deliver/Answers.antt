@@ -1,4 +1,4 @@
-use Rattle.std.proofs.Common.{◌≡◌, ◌+◌, None, sym, subst}
+use Rattle.std.proofs.Common.{◌+◌, None, sym, subst}
 use Rattle.px_terms.specs.declared.program.Program.{Program}
 use Rattle.px_terms.specs.declared.program.ReplicaDef.{ReplicaDef}
 use Rattle.px_schedule.specs.declared.schedule.Event.TheVariants as event

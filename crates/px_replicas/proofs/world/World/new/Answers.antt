@@ -1,4 +1,4 @@
-use Rattle.std.proofs.Common.{◌≡◌, Some, slice_get, refl, ap, sym, ◌∙◌, subst}
+use Rattle.std.proofs.Common.{slice_get, ap, sym, ◌∙◌}
 use Rattle.px_terms.specs.declared.program.Program.{Program}
 use Rattle.px_replicas.specs.declared.version.Version.{Version}
 use Rattle.px_replicas.proofs.StartSteps.{start_merges, start_kept, start_new, start_stands}

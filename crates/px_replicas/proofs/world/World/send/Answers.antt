@@ -1,8 +1,6 @@
-use Rattle.std.proofs.Common.{◌≡◌, ◌+◌, ℕ, None, refl, sym, subst}
-use Rattle.px_terms.specs.declared.program.Program.{Program}
-use Rattle.px_terms.specs.declared.program.ReplicaDef.{ReplicaDef}
+use Rattle.std.proofs.Common.{◌+◌, None, refl, sym, subst}
 use Rattle.px_schedule.specs.declared.schedule.Event.TheVariants as event
-use Rattle.px_replicas.specs.Worlds.{Standing, Runs, Fits, HappensWithin}
+use Rattle.px_replicas.specs.Worlds.{Standing, Fits, HappensWithin}
 use Rattle.px_replicas.specs.Serving.{standing_of}
 use Rattle.px_replicas.proofs.WorldSteps.{send_kept, send_taken}
 use Rattle.px_replicas.proofs.world.World.send.Goals as goal

@@ -1,4 +1,4 @@
-use Rattle.std.proofs.Common.{◌≡◌, ◌+◌, Some, refl, sym, subst}
+use Rattle.std.proofs.Common.{◌+◌, Some, refl, sym, subst}
 use Rattle.px_schedule.specs.declared.schedule.Event.TheVariants as event
 use Rattle.px_replicas.specs.Worlds.{Standing, Fits, HappensWithin}
 use Rattle.px_replicas.specs.Serving.{standing_of, IsShown}

@@ -1,4 +1,4 @@
-use Rattle.std.proofs.Common.{◌≡◌, subst}
+use Rattle.std.proofs.Common.{subst}
 use Rattle.px_replicas.specs.declared.shown.Shown.{Shown}
 use Rattle.px_replicas.specs.Worlds.{Standing}
 use Rattle.px_replicas.specs.Serving.{standing_of, IsShown}
