@@ -3,13 +3,11 @@ use Rattle.std.proofs.Common.{◌≡◌, ◌≢◌, ◌⊎◌, ◌↔◌, inl, i
 use Rattle.std.proofs.lemmas.Bool.{cases_lt}
 use Rattle.std.proofs.lemmas.List.{length-append}
 use Rattle.std.proofs.lemmas.Option.{slice_get_within}
-use Rattle.std.proofs.lemmas.List.Sums.{sum_by-cons}
 use Rattle.px_terms.specs.declared.term.Value.{Value}
 use Rattle.px_terms.specs.declared.program.ReplicaDef.{ReplicaDef}
 use Rattle.px_terms.specs.declared.program.Program.{Program}
 use Rattle.px_terms.specs.Extending.{IsWellFounded}
 use Rattle.px_terms.specs.TypedPrograms.{IsTypedReplica}
-use Rattle.px_totality.specs.Laws.{EachCallHasValue, EachTermHasValue}
 use Rattle.px_descent.specs.Checked.{IsChecked}
 use Rattle.px_machine.specs.declared.run_end.RunEnd.{RunEnd}
 use Rattle.px_machine.specs.declared.run_end.RunEnd.TheVariants as ends
@@ -25,25 +23,23 @@ use Rattle.px_replicas.specs.Worlds.{Standing, Runs, with_version, Happens, upda
 use Rattle.px_replicas.specs.Laws.{HeldByCases, JoinOfASet}
 use Rattle.px_replicas.specs.Serving.{AreSound, IsFounded}
 use Rattle.px_replicas.proofs.RisingLists.{In, Rises, in_contains, contains_in, pairs_rise, rise_from_pairs, in_append, in_front, in_back, rises_push}
+use Rattle.px_replicas.proofs.Places.{one_some, counted}
 use Rattle.px_replicas.proofs.Changes.{last_or_before, changed_or_kept, length_set}
 use Rattle.px_replicas.proofs.JoinSteps.{one_more, union_joined}
 
-count_first : {A : Type 0} (p : A → Bool) (x : A) (xs : List A) → count_by p (x ∷ xs) ≡ cond (p x) 1 0 + count_by p xs
-count_first p x xs = sum_by-cons (λ y. cond (p y) 1 0) x xs
-
 -- one item more counts where it passes the test
-counts_more : {A : Type 0} (p : A → Bool) (xs : List A) (i : ℕ) (x : A) → slice_get xs i ≡ Some x → count_by p (take (i + 1) xs) ≡ count_by p (take i xs) + cond (p x) 1 0
+counts_more : (p : Event → Bool) (xs : List Event) (i : ℕ) (x : Event) → slice_get xs i ≡ Some x → count_by p (take (i + 1) xs) ≡ count_by p (take i xs) + cond (p x) 1 0
 counts_more p [] i x e = absurd cc
 counts_more p (y ∷ xs) zero x e =
     let same : y ≡ x = cc in
-    count_first p y [] ∙ ap (λ z. cond (p z) 1 0 + 0) same ∙ plus (cond (p x) 1 0)
+    counted p y [] ∙ ap (λ (z : Event). cond (p z) 1 0 + 0) same ∙ plus (cond (p x) 1 0)
   where
     plus : (n : ℕ) → n + 0 ≡ 0 + n
     plus n = omega arith
 counts_more p (y ∷ xs) (suc i) x e =
     let rest : count_by p (take (i + 1) xs) ≡ count_by p (take i xs) + cond (p x) 1 0 = counts_more p xs i x e in
-    let more : count_by p (y ∷ take (i + 1) xs) ≡ cond (p y) 1 0 + count_by p (take (i + 1) xs) = count_first p y (take (i + 1) xs) in
-    let before : count_by p (y ∷ take i xs) ≡ cond (p y) 1 0 + count_by p (take i xs) = count_first p y (take i xs) in
+    let more : count_by p (y ∷ take (i + 1) xs) ≡ cond (p y) 1 0 + count_by p (take (i + 1) xs) = counted p y (take (i + 1) xs) in
+    let before : count_by p (y ∷ take i xs) ≡ cond (p y) 1 0 + count_by p (take i xs) = counted p y (take i xs) in
     let next : suc i + 1 ≡ suc (i + 1) = omega arith in
     ap (λ k. count_by p (take k (y ∷ xs))) next ∙ sums (count_by p (y ∷ take (i + 1) xs)) (cond (p y) 1 0) (count_by p (take (i + 1) xs)) (count_by p (take i xs)) (cond (p x) 1 0)
     (count_by p (y ∷ take i xs)) more rest before
@@ -52,7 +48,7 @@ counts_more p (y ∷ xs) (suc i) x e =
     sums a b c d e f one two three = omega (arith, one, two, three)
 
 -- at a later place no fewer are counted
-counts_rise : {A : Type 0} (p : A → Bool) (xs : List A) (i j : ℕ) → i ≤ j → count_by p (take i xs) ≤ count_by p (take j xs)
+counts_rise : (p : Event → Bool) (xs : List Event) (i j : ℕ) → i ≤ j → count_by p (take i xs) ≤ count_by p (take j xs)
 counts_rise p [] zero j le = omega arith
 counts_rise p [] (suc i) zero le = absurd (omega arith)
 counts_rise p [] (suc i) (suc j) le = omega arith
@@ -60,8 +56,8 @@ counts_rise p (y ∷ xs) zero j le = let none : count_by p [] ≡ 0 = refl in om
 counts_rise p (y ∷ xs) (suc i) zero le = absurd (omega arith)
 counts_rise p (y ∷ xs) (suc i) (suc j) le =
     let rest : count_by p (take i xs) ≤ count_by p (take j xs) = counts_rise p xs i j (omega arith) in
-    let one : count_by p (y ∷ take i xs) ≡ cond (p y) 1 0 + count_by p (take i xs) = count_first p y (take i xs) in
-    let other : count_by p (y ∷ take j xs) ≡ cond (p y) 1 0 + count_by p (take j xs) = count_first p y (take j xs) in
+    let one : count_by p (y ∷ take i xs) ≡ cond (p y) 1 0 + count_by p (take i xs) = counted p y (take i xs) in
+    let other : count_by p (y ∷ take j xs) ≡ cond (p y) 1 0 + count_by p (take j xs) = counted p y (take j xs) in
     omega (arith, one, other, rest)
 
 -- the same numbers, where the same is held
@@ -78,9 +74,6 @@ still_state P R events i q numbers v state same = record { held = still_held eve
 -- what holds of no case adds nothing
 adds_nothing : (X Is More : Type 0) → (More → ⊥) → X ↔ (Is ⊎ More) → X ↔ Is
 adds_nothing X Is More never same = (λ x. elim (same.0 x) [ inl h ↦ h | inr h ↦ absurd (never h) ], λ h. same.1 (inl h))
-
-one_some : {A : Type 0} (a b : A) → Some a ≡ Some b → a ≡ b
-one_some a b e = cc
 
 -- What is known of the program and the declaration that a world runs.
 record Known (P : Program) (R : ReplicaDef) (w : Standing) : Type 0 where
@@ -180,7 +173,7 @@ module _ (P : Program) (R : ReplicaDef) (count : ℕ) (events : List Event) (i :
     taken = one_later;
   }
 
-  module _ (founded : Known P R w) (calls_law : EachCallHasValue) (terms_law : EachTermHasValue) (set_law : JoinOfASet) (joins : MergeJoins P R) (may : MayHappen P R count events) where
+  module _ (founded : Known P R w) (set_law : JoinOfASet) (joins : MergeJoins P R) (may : MayHappen P R count events) where
     -- what a replica holds after an update there
     update_state : (r c : ℕ) (b : Value) (old next : Version) → slice_get events i ≡ Some (Update r b) → slice_get w.replicas r ≡ Some old →
         Merges P R old.state b next.state c → next.numbers ≡ old.numbers ++ w.updates ∷ [] → IsState P R events (i + 1) r next.numbers next.state
@@ -244,7 +237,7 @@ module _ (P : Program) (R : ReplicaDef) (count : ℕ) (events : List Event) (i :
         record {
           held = record { rising = union.rising; each = λ n. (to n, from n) };
           join =
-              union_joined P R (calls_law P founded.founded) (terms_law P founded.founded) founded.typed joins events may.values old.numbers sent.numbers old.state sent.state next.state
+              union_joined P R founded.founded founded.typed joins events may.values old.numbers sent.numbers old.state sent.state next.state
               state.join message.join merged set_law w.declaration founded.checked founded.declared next.numbers union;
         }
       where
@@ -326,8 +319,8 @@ module _ (P : Program) (R : ReplicaDef) (count : ℕ) (events : List Event) (i :
     goes_on_so e budget new (Err ends.NoMemory) at took = tt
 
 -- what a world that stands for a schedule answers to the next event, where it takes it
-pub goes_on : EachCallHasValue → EachTermHasValue → JoinOfASet → HeldByCases → (w : Standing) → IsFounded w → (e : Event) (budget : ℕ) (new : Standing)
+pub goes_on : JoinOfASet → HeldByCases → (w : Standing) → IsFounded w → (e : Event) (budget : ℕ) (new : Standing)
     (result : Result (Option Shown) RunEnd) → ((P : Program) (R : ReplicaDef) → Runs w P R → Takes w P R e budget new result) → (P : Program) (R : ReplicaDef) (count : ℕ)
     (events : List Event) (i : ℕ) → StandsFor P R count events i w → MergeJoins P R → MayHappen P R count events → slice_get events i ≡ Some e → GoesOn P R count events i budget new result
-goes_on calls terms set held w founded e budget new result takes P R count events i stands joins may at =
-    goes_on_so P R count events i w stands held (known P R w stands.runs founded) calls terms set joins may e budget new result at (takes P R stands.runs)
+goes_on set held w founded e budget new result takes P R count events i stands joins may at =
+    goes_on_so P R count events i w stands held (known P R w stands.runs founded) set joins may e budget new result at (takes P R stands.runs)

@@ -24,18 +24,18 @@ use Rattle.px_replicas.proofs.MergeTyping.{merge_gives}
 use Rattle.px_replicas.proofs.DeclaredReplicas.{founded_of, typed_of, first_is_state}
 
 module _ (P : Program) (R : ReplicaDef) (founded : IsWellFounded P) (typed : IsTypedReplica P R) (joins : MergeJoins P R) where
-  abbrev D : Value → Type 0
+  abbrev pub D : Value → Type 0
   D v = IsIn P R.state v
 
-  abbrev M : Value → Value → Value → Type 0
+  abbrev pub M : Value → Value → Value → Type 0
   M a b v = IsMerged P R a b v
 
-  total : (a b : Value) → D a → D b → Merged D M a b
+  pub total : (a b : Value) → D a → D b → Merged D M a b
   total a b da db =
       let it : ExactlyOne P R.state (Gives P R.merge R.funs (a ∷ b ∷ [])) = merge_gives P R (each_call P founded) typed a b da db in
       record { value = it.value; there = it.in_type; is = record { calls = it.count; merges = it.given } }
 
-  one : (a b v w : Value) → M a b v → M a b w → v ≡ w
+  pub one : (a b v w : Value) → M a b v → M a b w → v ≡ w
   one a b v w m n = (one_merge P R a b v w m.calls n.calls m.merges n.merges).0
 
   comm : (a b v : Value) → D a → D b → M a b v → M b a v
@@ -43,7 +43,7 @@ module _ (P : Program) (R : ReplicaDef) (founded : IsWellFounded P) (typed : IsT
       let it : Commute P R a b = joins.comm a b da db in
       subst (M b a) (one a b it.both v it.one_way m) it.other_way
 
-  assoc : (a b c x y v : Value) → D a → D b → D c → M a b x → M b c y → M x c v → M a y v
+  pub assoc : (a b c x y v : Value) → D a → D b → D c → M a b x → M b c y → M x c v → M a y v
   assoc a b c x y v da db dc front behind all =
       let it : Associate P R a b c = joins.assoc a b c da db dc in
       let from_front : M x c it.all = subst (λ (x : Value). M x c it.all) (one a b it.front x it.is_front front) it.from_front in
@@ -53,16 +53,16 @@ module _ (P : Program) (R : ReplicaDef) (founded : IsWellFounded P) (typed : IsT
   idem : (a : Value) → D a → M a a a
   idem a da = joins.idem a da
 
-  there_is : (a b v : Value) → D a → D b → M a b v → D v
+  pub there_is : (a b v : Value) → D a → D b → M a b v → D v
   there_is a b v da db m = semilattice.there_is D M total one comm assoc idem a b v da db m
 
-  takes_first : (a b v : Value) → D a → D b → M a b v → M v a v
+  pub takes_first : (a b v : Value) → D a → D b → M a b v → M v a v
   takes_first a b v da db m = semilattice.takes_first D M total one comm assoc idem a b v da db m
 
   takes_second : (a b v : Value) → D a → D b → M a b v → M v b v
   takes_second a b v da db m = semilattice.takes_second D M total one comm assoc idem a b v da db m
 
-  takes_through : (u a b : Value) → D u → D a → D b → M u a u → M a b a → M u b u
+  pub takes_through : (u a b : Value) → D u → D a → D b → M u a u → M a b a → M u b u
   takes_through u a b du da db ua ab = semilattice.takes_through D M total one comm assoc idem u a b du da db ua ab
 
   takes_both : (u a b v : Value) → D u → D a → D b → M u a u → M u b u → M a b v → M u v u

@@ -5,63 +5,36 @@ use Rattle.px_terms.specs.declared.term.Value.{Value}
 use Rattle.px_terms.specs.declared.program.ReplicaDef.{ReplicaDef}
 use Rattle.px_terms.specs.declared.program.Program.{Program}
 use Rattle.px_terms.specs.Values.{IsIn}
-use Rattle.px_terms.specs.Meaning.{Means, Gives}
 use Rattle.px_terms.specs.TypedPrograms.{IsTypedReplica}
-use Rattle.px_totality.specs.Laws.{CallsHaveValue, TermsHaveValue, ExactlyOne}
-use Rattle.px_totality.proofs.Unique.{unique, unique_gift}
+use Rattle.px_terms.specs.Extending.{IsWellFounded}
+use Rattle.px_totality.proofs.Unique.{unique}
 use Rattle.px_descent.specs.Checked.{IsChecked}
 use Rattle.px_schedule.specs.declared.schedule.Event.{Event}
 use Rattle.px_schedule.specs.declared.schedule.Event.TheVariants.{Update}
 use Rattle.px_replicas.specs.Held.{IsUnion}
-use Rattle.px_replicas.specs.Joins.{IsMerged, IsContributed, Gathers, done, more, IsJoin, MergeJoins, Commute, Associate}
+use Rattle.px_replicas.specs.Joins.{IsMerged, IsContributed, Gathers, done, more, IsJoin, MergeJoins}
 use Rattle.px_replicas.specs.Events.{HasState}
 use Rattle.px_replicas.specs.Laws.{JoinOfASet}
 use Rattle.px_replicas.proofs.RisingLists.{In, in_contains, contains_in, in_append, in_front, in_back}
-use Rattle.px_replicas.proofs.Semilattices.{Merged, takes_first, takes_through}
-use Rattle.px_replicas.proofs.MergeTyping.{merge_gives, first_gives}
+use Rattle.px_replicas.proofs.Semilattices.{Merged}
+use Rattle.px_replicas.proofs.DeclaredReplicas.{first_is_state}
+use Rattle.px_replicas.proofs.JoinOfSets as order
 
 -- The update of this number has a value.
 record IsUpdate (events : List Event) (n : ℕ) : Type 0 where
   value : Value
   is : IsContributed events n value
 
-module _ (P : Program) (R : ReplicaDef) (calls : CallsHaveValue P) (terms : TermsHaveValue P) (typed : IsTypedReplica P R) (joins : MergeJoins P R) where
-  merged_typed : (a b v : Value) → IsIn P R.state a → IsIn P R.state b → IsMerged P R a b v → IsIn P R.state v
-  merged_typed a b v da db m =
-      let all : ExactlyOne P R.state (Gives P R.merge R.funs (a ∷ b ∷ [])) = merge_gives P R calls typed a b da db in
-      subst (IsIn P R.state) (sym (all.no_other v m.calls m.merges).0) all.in_type
-
-  merged_one : (a b v w : Value) → IsMerged P R a b v → IsMerged P R a b w → v ≡ w
-  merged_one a b v w m n = (unique_gift P R.merge R.funs (a ∷ b ∷ []) v w m.calls n.calls m.merges n.merges).0
-
-  merged_total : (a b : Value) → IsIn P R.state a → IsIn P R.state b → Merged (IsIn P R.state) (IsMerged P R) a b
-  merged_total a b da db =
-      let all : ExactlyOne P R.state (Gives P R.merge R.funs (a ∷ b ∷ [])) = merge_gives P R calls typed a b da db in
-      record { value = all.value; there = all.in_type; is = record { calls = all.count; merges = all.given } }
-
-  merged_comm : (a b v : Value) → IsIn P R.state a → IsIn P R.state b → IsMerged P R a b v → IsMerged P R b a v
-  merged_comm a b v da db m =
-      let c : Commute P R a b = joins.comm a b da db in
-      subst (IsMerged P R b a) (merged_one a b c.both v c.one_way m) c.other_way
-
-  merged_assoc : (a b c x y v : Value) → IsIn P R.state a → IsIn P R.state b → IsIn P R.state c → IsMerged P R a b x → IsMerged P R b c y → IsMerged P R x c v → IsMerged P R a y v
-  merged_assoc a b c x y v da db dc front behind all =
-      let s : Associate P R a b c = joins.assoc a b c da db dc in
-      let is_front : s.front ≡ x = merged_one a b s.front x s.is_front front in
-      let is_back : s.back ≡ y = merged_one b c s.back y s.is_back behind in
-      let from_front : IsMerged P R x c s.all = subst (λ (z : Value). IsMerged P R z c s.all) is_front s.from_front in
-      let from_back : IsMerged P R a y s.all = subst (λ (z : Value). IsMerged P R a z s.all) is_back s.from_back in
-      subst (IsMerged P R a y) (merged_one x c s.all v from_front all) from_back
-
+module _ (P : Program) (R : ReplicaDef) (founded : IsWellFounded P) (typed : IsTypedReplica P R) (joins : MergeJoins P R) where
   -- what took in a value's beginning takes in what is merged from it on
   keeps_first : (events : List Event) → ((i : ℕ) (e : Event) → slice_get events i ≡ Some e → HasState P R e) → (f s a : Value) (ns : List ℕ) → IsIn P R.state f → IsIn P R.state s →
       IsMerged P R s f s → Gathers P R events s ns a → IsMerged P R a f a
   keeps_first events values f s a [] df ds m (done e) = subst (λ (z : Value). IsMerged P R z f z) (sym e) m
   keeps_first events values f s a (n ∷ ns) df ds m (more {b = c} {v = y} is n_merged rest) =
       let dc : IsIn P R.state c = values is.place (Update is.replica c) is.update.stands in
-      let dy : IsIn P R.state y = merged_typed s c y ds dc n_merged in
-      let ys : IsMerged P R y s y = takes_first (IsIn P R.state) (IsMerged P R) merged_total merged_one merged_comm merged_assoc joins.idem s c y ds dc n_merged in
-      let yf : IsMerged P R y f y = takes_through (IsIn P R.state) (IsMerged P R) merged_total merged_one merged_comm merged_assoc joins.idem y s f dy ds df ys m in
+      let dy : IsIn P R.state y = order.there_is P R founded typed joins s c y ds dc n_merged in
+      let ys : IsMerged P R y s y = order.takes_first P R founded typed joins s c y ds dc n_merged in
+      let yf : IsMerged P R y f y = order.takes_through P R founded typed joins y s f dy ds df ys m in
       keeps_first events values f y a ns df dy yf rest
 
   -- a merge with what is gathered is gathered from the merge with the beginning
@@ -69,13 +42,13 @@ module _ (P : Program) (R : ReplicaDef) (calls : CallsHaveValue P) (terms : Term
       IsMerged P R a f x → Gathers P R events f ns b → IsMerged P R a b v → Gathers P R events x ns v
   merged_in events values a f x b v [] da df front (done e) all =
       let there : IsMerged P R a f v = subst (λ (z : Value). IsMerged P R a z v) e all in
-      done (merged_one a f v x there front)
+      done (order.one P R founded typed joins a f v x there front)
   merged_in events values a f x b v (n ∷ ns) da df front (more {b = c} {v = y} is n_merged rest) all =
       let dc : IsIn P R.state c = values is.place (Update is.replica c) is.update.stands in
-      let dx : IsIn P R.state x = merged_typed a f x da df front in
-      let dy : IsIn P R.state y = merged_typed f c y df dc n_merged in
-      let next : Merged (IsIn P R.state) (IsMerged P R) x c = merged_total x c dx dc in
-      let there : IsMerged P R a y next.value = merged_assoc a f c x y next.value da df dc front n_merged next.is in
+      let dx : IsIn P R.state x = order.there_is P R founded typed joins a f x da df front in
+      let dy : IsIn P R.state y = order.there_is P R founded typed joins f c y df dc n_merged in
+      let next : Merged (IsIn P R.state) (IsMerged P R) x c = order.total P R founded typed joins x c dx dc in
+      let there : IsMerged P R a y next.value = order.assoc P R founded typed joins a f c x y next.value da df dc front n_merged next.is in
       more is next.is (merged_in events values a y next.value b v ns da dy there rest all)
 
   gathered_typed : (events : List Event) → ((i : ℕ) (e : Event) → slice_get events i ≡ Some e → HasState P R e) → (a v : Value) (ns : List ℕ) → IsIn P R.state a →
@@ -83,7 +56,7 @@ module _ (P : Program) (R : ReplicaDef) (calls : CallsHaveValue P) (terms : Term
   gathered_typed events values a v [] da (done e) = subst (IsIn P R.state) (sym e) da
   gathered_typed events values a v (n ∷ ns) da (more {b = c} {v = y} is n_merged rest) =
       let dc : IsIn P R.state c = values is.place (Update is.replica c) is.update.stands in
-      gathered_typed events values y v ns (merged_typed a c y da dc n_merged) rest
+      gathered_typed events values y v ns (order.there_is P R founded typed joins a c y da dc n_merged) rest
 
   -- updates that have values are gathered to one
   gather_all : (events : List Event) → ((i : ℕ) (e : Event) → slice_get events i ≡ Some e → HasState P R e) → (a : Value) (ns : List ℕ) → IsIn P R.state a →
@@ -92,14 +65,9 @@ module _ (P : Program) (R : ReplicaDef) (calls : CallsHaveValue P) (terms : Term
   gather_all events values a (n ∷ ns) da all =
       let it : IsUpdate events n = all n (inl refl) in
       let dc : IsIn P R.state it.value = values it.is.place (Update it.is.replica it.value) it.is.update.stands in
-      let next : Merged (IsIn P R.state) (IsMerged P R) a it.value = merged_total a it.value da dc in
+      let next : Merged (IsIn P R.state) (IsMerged P R) a it.value = order.total P R founded typed joins a it.value da dc in
       let rest : (v : Value) × Gathers P R events next.value ns v = gather_all events values next.value ns next.there (λ m h. all m (inr h)) in
       (rest.0, more it.is next.is rest.1)
-
-  first_typed : (first : Value) (count : ℕ) → Means P [] [] [] R.from first count → IsIn P R.state first
-  first_typed first count means =
-      let all : ExactlyOne P R.state (Means P [] [] [] R.from) = first_gives P R terms typed in
-      subst (IsIn P R.state) (sym (all.no_other first count means).0) all.in_type
 
 append_gathered : (P : Program) (R : ReplicaDef) (events : List Event) (a v w : Value) (xs ys : List ℕ) → Gathers P R events a xs v → Gathers P R events v ys w →
     Gathers P R events a (xs ++ ys) w
@@ -122,18 +90,18 @@ one_more P R events ns n a b v join is merged = record {
   gathers = append_gathered P R events join.first a v ns (n ∷ []) join.gathers (more is merged (done refl));
 }
 
-module _ (P : Program) (R : ReplicaDef) (calls : CallsHaveValue P) (terms : TermsHaveValue P) (typed : IsTypedReplica P R) (joins : MergeJoins P R) (events : List Event)
+module _ (P : Program) (R : ReplicaDef) (founded : IsWellFounded P) (typed : IsTypedReplica P R) (joins : MergeJoins P R) (events : List Event)
     (values : (i : ℕ) (e : Event) → slice_get events i ≡ Some e → HasState P R e) (ones others : List ℕ) (a b v : Value) (one : IsJoin P R events ones a)
     (other : IsJoin P R events others b) (merged : IsMerged P R a b v) where
   -- the join of one list behind the other
   both_joined : IsJoin P R events (ones ++ others) v
   both_joined =
-      let df : IsIn P R.state one.first = first_typed P R calls terms typed joins one.first one.calls one.is_first in
+      let df : IsIn P R.state one.first = first_is_state P R founded typed one.first one.calls one.is_first in
       let same : other.first ≡ one.first = (unique P [] [] [] [] (out-Term R.from) other.first one.first other.calls one.calls other.is_first one.is_first).0 in
       let rest : Gathers P R events one.first others b = subst (λ (z : Value). Gathers P R events z others b) same other.gathers in
-      let da : IsIn P R.state a = gathered_typed P R calls terms typed joins events values one.first a ones df one.gathers in
-      let kept : IsMerged P R a one.first a = keeps_first P R calls terms typed joins events values one.first one.first a ones df df (joins.idem one.first df) one.gathers in
-      let behind : Gathers P R events a others v = merged_in P R calls terms typed joins events values a one.first a b v others da df kept rest merged in
+      let da : IsIn P R.state a = gathered_typed P R founded typed joins events values one.first a ones df one.gathers in
+      let kept : IsMerged P R a one.first a = keeps_first P R founded typed joins events values one.first one.first a ones df df (joins.idem one.first df) one.gathers in
+      let behind : Gathers P R events a others v = merged_in P R founded typed joins events values a one.first a b v others da df kept rest merged in
       record {
         first = one.first;
         calls = one.calls;
@@ -144,8 +112,8 @@ module _ (P : Program) (R : ReplicaDef) (calls : CallsHaveValue P) (terms : Term
   -- the join of the set of both
   pub union_joined : JoinOfASet → (declaration : ℕ) → IsChecked P → slice_get P.replicas declaration ≡ Some R → (both : List ℕ) → IsUnion ones others both → IsJoin P R events both v
   union_joined law declaration checked declared both union =
-      let df : IsIn P R.state one.first = first_typed P R calls terms typed joins one.first one.calls one.is_first in
-      let all : (w : Value) × Gathers P R events one.first both w = gather_all P R calls terms typed joins events values one.first both df from in
+      let df : IsIn P R.state one.first = first_is_state P R founded typed one.first one.calls one.is_first in
+      let all : (w : Value) × Gathers P R events one.first both w = gather_all P R founded typed joins events values one.first both df from in
       let whole : IsJoin P R events both all.0 = record { first = one.first; calls = one.calls; is_first = one.is_first; gathers = all.1 } in
       let same : all.0 ≡ v = law P R declaration checked declared joins events values both (ones ++ others) all.0 v (λ n. (to n, back n)) whole both_joined in
       subst (IsJoin P R events both) same whole

@@ -5,26 +5,26 @@ use Rattle.px_base.specs.declared.head.Head.TheVariants as head
 use Rattle.px_terms.specs.declared.program.ReplicaDef.{ReplicaDef}
 use Rattle.px_terms.specs.declared.program.Program.{Program}
 use Rattle.px_terms.specs.declared.term.Value.{Value}
-use Rattle.px_terms.specs.Values.{IsIn}
 use Rattle.px_terms.specs.Meaning.{Means}
 use Rattle.px_terms.specs.Extending.{IsWellFounded}
 use Rattle.px_terms.specs.TypedPrograms.{IsTypedReplica}
-use Rattle.px_totality.specs.Laws.{EachTermHasValue, ExactlyOne}
-use Rattle.px_totality.proofs.TypesOfTerms.{all_at}
 use Rattle.px_descent.specs.Checked.{IsChecked}
 use Rattle.px_machine.specs.declared.code.Code.{Code}
 use Rattle.px_machine.specs.Standing.{Stands}
 use Rattle.px_schedule.specs.declared.schedule.Event.{Event}
 use Rattle.px_replicas.specs.declared.merge.Merge.{Merge}
 use Rattle.px_replicas.specs.declared.version.Version.{Version}
-use Rattle.px_replicas.specs.Held.{Holds, own, received, AreHeld}
+use Rattle.px_replicas.specs.Held.{AreHeld}
 use Rattle.px_replicas.specs.Joins.{done, IsJoin, IsState, IsMessage}
 use Rattle.px_replicas.specs.Holdings.{Holdings}
 use Rattle.px_replicas.specs.Keeping.{AreInOrder}
 use Rattle.px_replicas.specs.Worlds.{IsNew, StandsFor}
 use Rattle.px_replicas.specs.Serving.{built_value, IsMergeOf, IsSound, IsKept, standing_of}
 use Rattle.px_replicas.proofs.FirstSteps.{built_means}
-use Rattle.px_replicas.proofs.MergeTyping.{merge_defined, first_gives}
+use Rattle.px_replicas.proofs.MergeTyping.{merge_defined}
+use Rattle.px_replicas.proofs.DeclaredReplicas.{founded_of, typed_of, first_is_state}
+use Rattle.px_replicas.proofs.HeldCases.{held_by_cases}
+use Rattle.px_replicas.proofs.Places.{one_some}
 
 -- each of so many equal items
 one_of_equal : {A : Type 0} (n : ℕ) (x : A) (i : ℕ) (y : A) → slice_get (replicate n x) i ≡ Some y → y ≡ x
@@ -43,41 +43,38 @@ empty : (n : ℕ) → Contains [] n → ⊥
 empty n there = let within : there.0 < 0 = there.1 in omega (arith, within)
 
 -- before the first event nothing is held
-none_held : (events : List Event) (n i r : ℕ) → i ≡ 0 → Holds events n i r → ⊥
-none_held events n i r e (own lt is) = absurd (omega (arith, lt, e))
-none_held events n i r e (received lt is before sends held) = absurd (omega (arith, lt, e))
-
 none_is_held : (events : List Event) (r : ℕ) → AreHeld events 0 r []
 none_is_held events r = record {
   rising = λ i j d lt within. absurd (omega arith);
-  each = λ n. (λ there. absurd (empty n there), λ held. absurd (none_held events n 0 r refl held));
+  each = λ n. (λ there. absurd (empty n there), λ held. absurd (held_by_cases.before events n r held));
 }
+
+-- a declaration that is found in a program's list is the program's
+pub found_there : (P Q : Program) (all : List ReplicaDef) (declaration : ℕ) (R : ReplicaDef) → Q ≡ P → all ≡ Q.replicas → Some R ≡ slice_get all declaration →
+    slice_get P.replicas declaration ≡ Some R
+found_there P Q all declaration R same lent found =
+    ap (λ (S : Program). slice_get S.replicas declaration) (sym same) ∙ ap (λ (rs : List ReplicaDef). slice_get rs declaration) (sym lent) ∙ sym found
 
 module _ (P : Program) (declaration : ℕ) (R : ReplicaDef) (checked : IsChecked P) (declared : slice_get P.replicas declaration ≡ Some R) where
   pub start_typed : IsTypedReplica P R
-  start_typed = all_at (IsTypedReplica P) P.replicas declaration R checked.typed.replicas declared
+  start_typed = typed_of declaration checked declared
 
   -- the merge is a definition
   pub start_merges : (n : ℕ) × (R.merge.head ≡ head.Def n)
   start_merges = let it = merge_defined P R start_typed in (it.n, it.head)
 
-  module _ (terms : EachTermHasValue) (count : ℕ) (first : Version) (holdings : Holdings) (none : first.numbers ≡ []) (value : first.state ≡ built_value R.from)
+  module _ (count : ℕ) (first : Version) (holdings : Holdings) (none : first.numbers ≡ []) (value : first.state ≡ built_value R.from)
       (replicas : holdings.replicas ≡ replicate count first) (messages : holdings.messages ≡ [])
     where
       founded : IsWellFounded P
-      founded = record { typed = checked.typed; descends = checked.descends }
+      founded = founded_of checked
 
       first_means : Means P [] [] [] R.from first.state 0
       first_means = subst (λ (v : Value). Means P [] [] [] R.from v 0) (sym value) (built_means P [] [] [] R.from start_typed.built)
 
-      first_is_state : IsIn P R.state first.state
-      first_is_state =
-          let all : ExactlyOne P R.state (Means P [] [] [] R.from) = first_gives P R (terms P founded) start_typed in
-          subst (IsIn P R.state) (sym (all.no_other first.state 0 first_means).0) all.in_type
-
       first_sound : IsSound P R 0 first
       first_sound = record {
-        typed = first_is_state;
+        typed = first_is_state P R founded start_typed first.state 0 first_means;
         rising = subst AreInOrder (sym none) (λ i j d lt within. absurd (omega arith));
         below = λ n there. absurd (empty n (subst (λ (ns : List ℕ). Contains ns n) none there));
       }
@@ -149,6 +146,3 @@ module _ (P : Program) (declaration : ℕ) (R : ReplicaDef) (checked : IsChecked
             updates = refl;
             taken = refl;
           })
-        where
-          one_some : (a b : ReplicaDef) → Some a ≡ Some b → a ≡ b
-          one_some a b e = cc

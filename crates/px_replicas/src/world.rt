@@ -11,7 +11,6 @@ use px_descent::Checked;
 use px_machine::{Code, FlatValue, RunEnd};
 use px_schedule::Event;
 use px_terms::limits::EVENTS;
-use px_totality::{each_call_has_value, each_term_has_value};
 use sqlite_items::{Items, at};
 use std::alloc::Global;
 use std::marker::Model;
@@ -70,7 +69,6 @@ impl<'a> World<'a> {
         ensures is_new { IfOk result (IsNew checked.now declaration count) }
         ensures stands { IfOk result (λ world. (R : AnyReplica) → slice_get checked.now.replicas declaration ≡ Some R → (events : List AnyEvent) → StandsFor checked.now R count events 0 world) }
     {
-        each_term_has_value();
         let Some(replica) = at(checked.program().replicas.as_slice(), declaration as usize) else {
             unreachable!()
         };
@@ -246,8 +244,6 @@ impl<'a> World<'a> {
         ensures takes { (P : AnyProgram) (R : AnyReplica) → Runs self.old P R → Takes self.old P R event.now budget self.new result }
         ensures stands { (P : AnyProgram) (R : AnyReplica) (count : ℕ) (events : List AnyEvent) (i : ℕ) → StandsFor P R count events i self.old → MergeJoins P R → MayHappen P R count events → slice_get events i ≡ Some event.now → GoesOn P R count events i budget self.new result }
     {
-        each_call_has_value();
-        each_term_has_value();
         held_by_cases();
         join_of_a_set();
         self.founded();

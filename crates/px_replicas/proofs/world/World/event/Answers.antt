@@ -11,7 +11,7 @@ returns-in-Update-clause-stands c =
     let new = c.update.new.self in
     let takes =
     subst (λ (e : Event). (P : Program) (R : ReplicaDef) → Runs c.args.self.now P R → Takes c.args.self.now P R e c.args.budget new c.update.result) (sym c.in-Update.is) c.update.ensures in
-    goes_on c.each_call_has_value.ensures c.each_term_has_value.ensures c.join_of_a_set.ensures c.held_by_cases.ensures c.args.self.now c.founded.ensures c.args.event.now c.args.budget new
+    goes_on c.join_of_a_set.ensures c.held_by_cases.ensures c.args.self.now c.founded.ensures c.args.event.now c.args.budget new
     c.update.result takes
 
 pub returns-in-Deliver-clause-stands : goal.returns-in-Deliver-clause-stands
@@ -19,7 +19,7 @@ returns-in-Deliver-clause-stands c =
     let new = c.deliver.new.self in
     let takes =
     subst (λ (e : Event). (P : Program) (R : ReplicaDef) → Runs c.args.self.now P R → Takes c.args.self.now P R e c.args.budget new c.deliver.result) (sym c.in-Deliver.is) c.deliver.ensures in
-    goes_on c.each_call_has_value.ensures c.each_term_has_value.ensures c.join_of_a_set.ensures c.held_by_cases.ensures c.args.self.now c.founded.ensures c.args.event.now c.args.budget new
+    goes_on c.join_of_a_set.ensures c.held_by_cases.ensures c.args.self.now c.founded.ensures c.args.event.now c.args.budget new
     c.deliver.result takes
 
 pub returns-in-Send-clause-takes : goal.returns-in-Send-clause-takes
@@ -31,7 +31,7 @@ returns-in-Send-clause-stands c =
     let new = c.send.new.self in
     let takes = λ (P : Program) (R : ReplicaDef) (runs : Runs c.args.self.now P R).
     subst (λ (e : Event). Takes c.args.self.now P R e c.args.budget new c.send.result) (sym c.in-Send.is) (c.send.ensures P R c.args.budget runs) in
-    goes_on c.each_call_has_value.ensures c.each_term_has_value.ensures c.join_of_a_set.ensures c.held_by_cases.ensures c.args.self.now c.founded.ensures c.args.event.now c.args.budget new
+    goes_on c.join_of_a_set.ensures c.held_by_cases.ensures c.args.self.now c.founded.ensures c.args.event.now c.args.budget new
     c.send.result takes
 
 pub returns-in-Show-clause-takes : goal.returns-in-Show-clause-takes
@@ -43,5 +43,5 @@ returns-in-Show-clause-stands c =
     let new = c.show.new.self in
     let takes = λ (P : Program) (R : ReplicaDef) (runs : Runs c.args.self.now P R).
     subst (λ (e : Event). Takes c.args.self.now P R e c.args.budget new c.show.result) (sym c.in-Show.is) (c.show.ensures P R c.args.budget runs) in
-    goes_on c.each_call_has_value.ensures c.each_term_has_value.ensures c.join_of_a_set.ensures c.held_by_cases.ensures c.args.self.now c.founded.ensures c.args.event.now c.args.budget new
+    goes_on c.join_of_a_set.ensures c.held_by_cases.ensures c.args.self.now c.founded.ensures c.args.event.now c.args.budget new
     c.show.result takes
