@@ -21,6 +21,12 @@ mod line;
 mod messages;
 mod outcome;
 mod refusals;
+mod run;
+pub mod run_laws;
+#[cfg(test)]
+mod run_tests;
+#[cfg(test)]
+mod run_texts;
 #[cfg(test)]
 mod row_tests;
 mod stages;
@@ -31,3 +37,4 @@ pub use command::drive;
 pub use messages::status;
 pub use outcome::{ArgumentKind, CommandLine, End, Outcome, SourceFault, Which};
 pub use px_replay::Why;
+pub use px_schedule::ScheduleKind;
