@@ -21,14 +21,14 @@ mod line;
 mod messages;
 mod outcome;
 mod refusals;
+#[cfg(test)]
+mod row_tests;
 mod run;
 pub mod run_laws;
 #[cfg(test)]
 mod run_tests;
 #[cfg(test)]
 mod run_texts;
-#[cfg(test)]
-mod row_tests;
 mod stages;
 #[cfg(test)]
 mod tests;

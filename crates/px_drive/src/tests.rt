@@ -390,7 +390,8 @@ fn each_call_has_its_end(rt: HostRuntime) -> Result<(), Fail> {
     }
     for words in OTHER_WORDS {
         let call = Call { words, ..REPLAY };
-        let usage = "usage: propel check F | replay F D | eval F NAME V.. [--calls N] | run F D S [--calls N]\n";
+        let usage =
+            "usage: propel check F | replay F D | eval F NAME V.. [--calls N] | run F D S [--calls N]\n";
         expect(&rt, rt.alloc(), &call, 2, "", usage)?;
     }
     for (program, line) in REFUSED {
@@ -607,7 +608,10 @@ fn the_line_that_was_read_is_kept(rt: HostRuntime) -> Result<(), Fail> {
         Some(CommandLine::Replay { file, derivation }) => {
             file.as_str() == "x" && derivation.as_str() == "y"
         }
-        Some(CommandLine::Check { .. }) | Some(CommandLine::Eval { .. }) | Some(CommandLine::Run { .. }) | None => false,
+        Some(CommandLine::Check { .. })
+        | Some(CommandLine::Eval { .. })
+        | Some(CommandLine::Run { .. })
+        | None => false,
     };
     assert!(rt; kept);
     Ok(())
