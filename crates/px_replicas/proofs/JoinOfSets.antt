@@ -29,7 +29,7 @@ module _ (P : Program) (R : ReplicaDef) (founded : IsWellFounded P) (typed : IsT
   abbrev M : Value → Value → Value → Type 0
   M a b v = IsMerged P R a b v
 
-  total : (a b : Value) → D a → D b → Merged D M a b
+  pub total : (a b : Value) → D a → D b → Merged D M a b
   total a b da db =
       let it : ExactlyOne P R.state (Gives P R.merge R.funs (a ∷ b ∷ [])) = merged P R (merge_is P R typed) founded a b da db in
       record { value = it.value; there = it.in_type; is = record { calls = it.count; merges = it.given } }
@@ -52,40 +52,40 @@ module _ (P : Program) (R : ReplicaDef) (founded : IsWellFounded P) (typed : IsT
   idem : (a : Value) → D a → M a a a
   idem a da = joins.idem a da
 
-  there_is : (a b v : Value) → D a → D b → M a b v → D v
+  pub there_is : (a b v : Value) → D a → D b → M a b v → D v
   there_is a b v da db m = semilattice.there_is D M total one comm assoc idem a b v da db m
 
-  takes_first : (a b v : Value) → D a → D b → M a b v → M v a v
+  pub takes_first : (a b v : Value) → D a → D b → M a b v → M v a v
   takes_first a b v da db m = semilattice.takes_first D M total one comm assoc idem a b v da db m
 
-  takes_second : (a b v : Value) → D a → D b → M a b v → M v b v
+  pub takes_second : (a b v : Value) → D a → D b → M a b v → M v b v
   takes_second a b v da db m = semilattice.takes_second D M total one comm assoc idem a b v da db m
 
-  takes_through : (u a b : Value) → D u → D a → D b → M u a u → M a b a → M u b u
+  pub takes_through : (u a b : Value) → D u → D a → D b → M u a u → M a b a → M u b u
   takes_through u a b du da db ua ab = semilattice.takes_through D M total one comm assoc idem u a b du da db ua ab
 
-  takes_both : (u a b v : Value) → D u → D a → D b → M u a u → M u b u → M a b v → M u v u
+  pub takes_both : (u a b v : Value) → D u → D a → D b → M u a u → M u b u → M a b v → M u v u
   takes_both u a b v du da db ua ub m = semilattice.takes_both D M total one comm assoc idem u a b v du da db ua ub m
 
-  take_each_other : (u v : Value) → D u → D v → M u v u → M v u v → u ≡ v
+  pub take_each_other : (u v : Value) → D u → D v → M u v u → M v u v → u ≡ v
   take_each_other u v du dv uv vu = semilattice.take_each_other D M total one comm assoc idem u v du dv uv vu
 
   module _ (events : List Event) (of_type : (i : ℕ) (e : Event) → slice_get events i ≡ Some e → HasState P R e) where
-    contributed : (n : ℕ) (b : Value) → IsContributed events n b → D b
+    pub contributed : (n : ℕ) (b : Value) → IsContributed events n b → D b
     contributed n b is = of_type is.place (Update is.replica b) is.update.stands
 
     -- The value takes in each of these updates.
-    record Takes (u : Value) (numbers : List ℕ) : Type 0 where
-      each : (n : ℕ) (b : Value) → In numbers n → IsContributed events n b → M u b u
+    pub record Takes (u : Value) (numbers : List ℕ) : Type 0 where
+      pub each : (n : ℕ) (b : Value) → In numbers n → IsContributed events n b → M u b u
 
     -- The value is of the state's type, and takes in the first value and each of these updates.
-    record IsAbove (a : Value) (numbers : List ℕ) (v : Value) : Type 0 where
-      there : D v
-      first : M v a v
-      updates : Takes v numbers
+    pub record IsAbove (a : Value) (numbers : List ℕ) (v : Value) : Type 0 where
+      pub there : D v
+      pub first : M v a v
+      pub updates : Takes v numbers
 
     -- what updates are merged to takes them in
-    is_above : (a v : Value) (numbers : List ℕ) → Gathers P R events a numbers v → D a → IsAbove a numbers v
+    pub is_above : (a v : Value) (numbers : List ℕ) → Gathers P R events a numbers v → D a → IsAbove a numbers v
     is_above a v _ (done e) da =
         let itself : IsAbove a [] a = record { there = da; first = idem a da; updates = record { each = λ n b none is. absurd none } } in
         subst (IsAbove a []) (sym e) itself
@@ -104,7 +104,7 @@ module _ (P : Program) (R : ReplicaDef) (founded : IsWellFounded P) (typed : IsT
         by others of_next k c (inr within) contributes = others.each k c within contributes
 
     -- and each value that takes them in takes it in
-    is_least : (a v u : Value) (numbers : List ℕ) → Gathers P R events a numbers v → D a → D u → M u a u → Takes u numbers → M u v u
+    pub is_least : (a v u : Value) (numbers : List ℕ) → Gathers P R events a numbers v → D a → D u → M u a u → Takes u numbers → M u v u
     is_least a v u _ (done e) da du ua takes = subst (λ (v : Value). M u v u) (sym e) ua
     is_least a w u _ (more {b = b} {v = x} {n = n} {numbers = numbers} is m g) da du ua takes =
         let db : D b = contributed n b is in

@@ -10,3 +10,4 @@ pub mod DeclaredReplicas
 pub mod JoinOfSets
 pub mod HeldCases
 pub mod Scheduled
+pub mod JoinsGoOn
