@@ -1,4 +1,13 @@
 pub mod RisingLists
 pub mod Semilattices
+pub mod Places
 pub mod Outputs
 pub mod OneOutput
+pub mod Needs
+pub mod MergeFunctions
+pub mod DeclaredMerges
+pub mod DeclaredReplicas
+pub mod JoinOfSets
+pub mod HeldCases
+pub mod Scheduled
+pub mod JoinsGoOn

@@ -1,13 +1,11 @@
 -- A schedule has one output, and an event asks for one number of calls.
-use Rattle.std.proofs.Common.{◌≡◌, ◌⊎◌, inl, inr, ℕ, zero, suc, ◌+◌, List, [], ◌∷◌, ◌++◌, Option, Some, None, refl, sym, ap, ◌∙◌, subst, arith, slice_get}
-use Rattle.px_base.specs.declared.names.Names.{Names}
-use Rattle.px_terms.specs.declared.term.Value.{Value}
+use Rattle.std.proofs.Common.{◌≡◌, ◌⊎◌, inl, inr, ℕ, zero, suc, List, [], ◌∷◌, ◌++◌, Option, Some, None, refl, sym, ap, ◌∙◌, subst, arith, slice_get}
 use Rattle.px_terms.specs.declared.program.ReplicaDef.{ReplicaDef}
 use Rattle.px_terms.specs.declared.program.Program.{Program}
 use Rattle.px_schedule.specs.declared.schedule.Event.{Event}
 use Rattle.px_schedule.specs.declared.schedule.Event.TheVariants.{Show}
 use Rattle.px_replicas.specs.declared.shown.Shown.{Shown}
-use Rattle.px_replicas.specs.Joins.{IsState, IsJoin}
+use Rattle.px_replicas.specs.Joins.{IsState}
 use Rattle.px_replicas.specs.Lines.{show_lines, shown_list, IsShownAt, IsAnswer, AreShown, none, more, AreLines}
 use Rattle.px_replicas.proofs.Outputs.{one_state, same_join}
 

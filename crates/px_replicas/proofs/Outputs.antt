@@ -1,7 +1,5 @@
 -- What a replica holds is one list with one join, and a schedule has one output.
-use Rattle.std.proofs.Common.{◌≡◌, ℕ, zero, suc, ◌+◌, ◌<◌, Bool, true, cond, List, [], ◌∷◌, ◌++◌, take, count_by, Option, Some, refl, sym, ap, ◌∙◌, subst, arith, ◌≤◌, ◌⊎◌, inl, inr, append_assoc, slice_get, Contains, ◌↔◌}
-use Rattle.std.proofs.lemmas.List.Sums.{sum_by-cons}
-use Rattle.std.proofs.lemmas.Bool.{cases_lt}
+use Rattle.std.proofs.Common.{◌≡◌, ℕ, List, [], ◌∷◌, ◌++◌, refl, sym, ap, ◌∙◌, subst, append_assoc, ◌↔◌}
 use Rattle.px_base.specs.declared.names.Names.{Names}
 use Rattle.px_terms.specs.declared.term.Value.{Value}
 use Rattle.px_terms.specs.declared.program.ReplicaDef.{ReplicaDef}
@@ -9,14 +7,14 @@ use Rattle.px_terms.specs.declared.program.Program.{Program}
 use Rattle.px_terms.specs.declared.term.Term.{out-Term}
 use Rattle.px_totality.proofs.Unique.{unique_gift, unique}
 use Rattle.px_schedule.specs.declared.schedule.Event.{Event}
-use Rattle.px_schedule.specs.declared.schedule.Event.TheVariants.{Update}
 use Rattle.px_replicas.specs.declared.shown.Shown.{Shown}
-use Rattle.px_replicas.specs.Held.{is_update, updates_before, AreRising}
-use Rattle.px_replicas.specs.Joins.{Merges, IsMerged, IsContributed, Gathers, done, more, IsJoin, IsState}
+use Rattle.px_replicas.specs.Held.{AreRising}
+use Rattle.px_replicas.specs.Joins.{Merges, IsContributed, Gathers, done, more, IsJoin}
 use Rattle.px_replicas.specs.Lines as lines
 use Rattle.px_replicas.specs.Lines.{show_line, show_lines, shown_list, IsAnswer, AreShown, AreLines}
 use Rattle.px_replicas.specs.Laws.{LinesGoOn, OneState, SameHeldSameState}
-use Rattle.px_replicas.proofs.RisingLists.{In, in_contains, contains_in, rise_from_pairs, rising_is_one}
+use Rattle.px_replicas.proofs.Places.{one_update}
+use Rattle.px_replicas.proofs.RisingLists.{in_contains, contains_in, rise_from_pairs, rising_is_one}
 
 lines_append : (names : Names) (xs ys : List Shown) → show_lines names (xs ++ ys) ≡ show_lines names xs ++ show_lines names ys
 lines_append names [] ys = refl
@@ -37,43 +35,8 @@ one_set In' Also xs ys p q same = rising_is_one xs ys (rise_from_pairs xs p.risi
   back = λ n h. contains_in xs n ((p.each n).1 ((same n).1 ((q.each n).0 (in_contains ys n h))));
 })
 
-counted : (x : Event) (xs : List Event) → count_by is_update (x ∷ xs) ≡ cond (is_update x) 1 0 + count_by is_update xs
-counted x xs = sum_by-cons (λ (e : Event). cond (is_update e) 1 0) x xs
-
-one_some : {A : Type 0} (a b : A) → Some a ≡ Some b → a ≡ b
-one_some a b e = cc
-
--- an update counts for all places behind it
-counts_later : (events : List Event) (p q r : ℕ) (v : Value) → slice_get events p ≡ Some (Update r v) → p < q → updates_before events p < updates_before events q
-counts_later [] p q r v e lt = absurd cc
-counts_later (x ∷ xs) p zero r v e lt = absurd (omega arith)
-counts_later (x ∷ xs) zero (suc q) r v e lt =
-    let is : x ≡ Update r v = one_some x (Update r v) e in
-    let one : cond {A = ℕ} (is_update x) 1 0 ≡ 1 = ap (λ (y : Event). cond {A = ℕ} (is_update y) 1 0) is in
-    let c : updates_before (x ∷ xs) (suc q) ≡ cond (is_update x) 1 0 + count_by is_update (take q xs) = counted x (take q xs) in
-    let z : updates_before (x ∷ xs) 0 ≡ 0 = refl in
-    omega arith
-counts_later (x ∷ xs) (suc p) (suc q) r v e lt =
-    let a : updates_before (x ∷ xs) (suc p) ≡ cond (is_update x) 1 0 + count_by is_update (take p xs) = counted x (take p xs) in
-    let b : updates_before (x ∷ xs) (suc q) ≡ cond (is_update x) 1 0 + count_by is_update (take q xs) = counted x (take q xs) in
-    let rest : updates_before xs p < updates_before xs q = counts_later xs p q r v e (omega arith) in
-    omega arith
-
-one_update : (events : List Event) (n p q r s : ℕ) (v w : Value) → slice_get events p ≡ Some (Update r v) → slice_get events q ≡ Some (Update s w) →
-    n ≡ updates_before events p → n ≡ updates_before events q → v ≡ w
-one_update events n p q r s v w at there e f = elim (cases_lt p q) [
-  | inl lt ↦ let less : updates_before events p < updates_before events q = counts_later events p q r v at lt in absurd (omega (arith, less, e, f))
-  | inr le ↦ elim (cases_lt q p) [
-    | inl lt ↦ let less : updates_before events q < updates_before events p = counts_later events q p s w there lt in absurd (omega (arith, less, e, f))
-    | inr ge ↦
-        let same : p ≡ q = omega (arith, le, ge) in
-        let h : Some (Update r v) ≡ Some (Update s w) = sym at ∙ ap (slice_get events) same ∙ there in
-        cc
-  ]
-]
-
-one_contributed : (events : List Event) (n : ℕ) (v w : Value) → IsContributed events n v → IsContributed events n w → v ≡ w
-one_contributed events n v w a b = one_update events n a.place b.place a.replica b.replica v w a.update.stands b.update.stands a.update.number b.update.number
+pub one_contributed : (events : List Event) (n : ℕ) (v w : Value) → IsContributed events n v → IsContributed events n w → v ≡ w
+one_contributed events n v w a b = one_update events n a.place b.place a.replica b.replica v w a.update b.update
 
 pub one_merge : (P : Program) (R : ReplicaDef) (a b v w : Value) (c d : ℕ) → Merges P R a b v c → Merges P R a b w d → (v ≡ w) × (c ≡ d)
 one_merge P R a b v w c d m n = unique_gift P R.merge R.funs (a ∷ b ∷ []) v w c d m n

@@ -1,6 +1,6 @@
 -- What commutativity, associativity and idempotence give: a merge is the least upper bound. `M a b v` says that v is the merge of a and b,
 -- `D` which values there are.
-use Rattle.std.proofs.Common.{◌≡◌, ℕ, List, [], ◌∷◌, refl, sym, ap, ◌∙◌, subst}
+use Rattle.std.proofs.Common.{◌≡◌, subst}
 
 -- The merge of two values there are, which is one of them.
 pub record Merged {A : Type 0} (D : A → Type 0) (M : A → A → A → Type 0) (a b : A) : Type 0 where
@@ -12,7 +12,8 @@ module _ {A : Type 0} (D : A → Type 0) (M : A → A → A → Type 0) (total :
     (comm : (a b v : A) → D a → D b → M a b v → M b a v) (assoc : (a b c x y v : A) → D a → D b → D c → M a b x → M b c y → M x c v → M a y v)
     (idem : (a : A) → D a → M a a a)
   where
-    there_is : (a b v : A) → D a → D b → M a b v → D v
+    -- the merge of values there are is one of them
+    pub there_is : (a b v : A) → D a → D b → M a b v → D v
     there_is a b v da db m = let it = total a b da db in subst D (one a b it.value v it.is m) it.there
 
     -- the other way round

@@ -6,7 +6,6 @@ use Rattle.px_terms.specs.declared.program.ReplicaDef.{ReplicaDef}
 use Rattle.px_terms.specs.declared.program.Program.{Program}
 use Rattle.px_terms.specs.Obligations.{AllHoldInExtensions}
 use Rattle.px_descent.specs.Checked.{IsChecked}
-use Rattle.px_machine.specs.ValueText.{value_text}
 use Rattle.px_schedule.specs.declared.schedule.Event.{Event}
 use Rattle.px_schedule.specs.declared.schedule.Event.TheVariants.{Update, Send, Deliver, Show}
 use Rattle.px_schedule.specs.declared.schedule.Schedule.{Schedule}

@@ -7,7 +7,7 @@ use Rattle.px_terms.specs.declared.program.ReplicaDef.{ReplicaDef}
 use Rattle.px_terms.specs.declared.program.Program.{Program}
 use Rattle.px_machine.specs.ValueText.{value_text}
 use Rattle.px_schedule.specs.declared.schedule.Event.{Event}
-use Rattle.px_schedule.specs.declared.schedule.Event.TheVariants.{Update, Send, Deliver, Show}
+use Rattle.px_schedule.specs.declared.schedule.Event.TheVariants.{Show}
 use Rattle.px_replicas.specs.declared.shown.Shown.{Shown}
 use Rattle.px_replicas.specs.Joins.{IsState}
 

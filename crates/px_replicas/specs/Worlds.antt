@@ -1,5 +1,5 @@
 -- Worlds: what an event does to one, and when one stands for a schedule after some of its events.
-use Rattle.std.specs.Prelude.{◌≡◌, refl, ℕ, ◌+◌, ◌<◌, ◌≤◌, List, [], ◌∷◌, ◌++◌, length, replicate, slice_set, Option, Some, None, slice_get, Contains, ◌⊎◌, Result, Ok, Err}
+use Rattle.std.specs.Prelude.{◌≡◌, refl, ℕ, ◌+◌, ◌<◌, ◌≤◌, List, [], ◌∷◌, ◌++◌, length, replicate, slice_set, Option, Some, None, slice_get, Result, Ok, Err}
 use Rattle.std.specs.Coded.{Coded, code_by, coded×, coded_list, coded_ℕ}
 use Rattle.px_base.specs.declared.limits.TheConstants.{EVENTS}
 use Rattle.px_terms.specs.declared.term.Value.{Value}
