@@ -5,7 +5,7 @@ use Rattle.px_terms.specs.declared.program.Program.{Program}
 use Rattle.px_terms.specs.declared.program.ReplicaDef.{ReplicaDef}
 use Rattle.px_schedule.specs.declared.schedule.Schedule.{Schedule}
 use Rattle.px_schedule.specs.Schedules.{IsSchedule}
-use Rattle.px_replicas.specs.Joins.{Needs}
+use Rattle.px_replicas.specs.Events.{Needs}
 use Rattle.px_world.specs.Faults.{Rose}
 use Rattle.px_drive.specs.declared.arguments.ClosedCall.{ClosedCall}
 use Rattle.px_drive.specs.declared.outcome.CommandLine.{CommandLine}

@@ -1,11 +1,11 @@
 -- What the run of a schedule makes of its events.
-use Rattle.std.specs.Prelude.{◌≡◌, ℕ, ◌+◌, List, [], Option, None, Some}
+use Rattle.std.specs.Prelude.{◌≡◌, ℕ, ◌+◌, List, [], Option}
 use Rattle.std.specs.Io.KnownBytes.{Appends}
 use Rattle.px_base.specs.declared.names.Names.{Names}
 use Rattle.px_machine.specs.declared.run_end.RunEnd.{RunEnd}
 use Rattle.px_machine.specs.declared.run_end.RunEnd.TheVariants as refusals
 use Rattle.px_replicas.specs.declared.shown.Shown.{Shown}
-use Rattle.px_replicas.specs.Lines.{show_line}
+use Rattle.px_replicas.specs.Lines.{show_lines, shown_list}
 use Rattle.px_world.specs.Faults.{Rose}
 use Rattle.px_world.specs.Known.{AppendsPrefix}
 use Rattle.px_drive.specs.declared.outcome.End.{End}
@@ -21,10 +21,9 @@ abbrev pub end_of_event : ℕ → RunEnd → End
 end_of_event place refusals.Spent = Spent (place + 1)
 end_of_event place refusals.NoMemory = NoMemory
 
--- the line of what an event shows
+-- the line of what an event shows, if anything
 abbrev pub line_shown : Names → Option Shown → List ℕ
-line_shown names None = []
-line_shown names (Some shown) = show_line names shown.replica shown.numbers shown.value
+line_shown names answer = show_lines names (shown_list answer)
 
 -- the line was printed whole; or a front of it, and the count of the sink rose; or nothing, for want of memory
 abbrev pub PrintsShown : List ℕ → SinkSeen → End → Type 0

@@ -8,7 +8,7 @@ use Rattle.px_terms.specs.declared.program.ReplicaDef.{ReplicaDef}
 use Rattle.px_terms.specs.declared.program.Program.{Program}
 use Rattle.px_schedule.specs.declared.schedule.Schedule.{Schedule}
 use Rattle.px_schedule.specs.Schedules.{IsSchedule}
-use Rattle.px_replicas.specs.Joins.{JoinsOn}
+use Rattle.px_replicas.specs.Joins.{MergeJoins}
 use Rattle.px_world.specs.Known.{Told}
 use Rattle.px_drive.specs.declared.outcome.CommandLine.{CommandLine}
 use Rattle.px_drive.specs.declared.outcome.CommandLine.TheVariants.{Check, Replay, Eval, Run}
@@ -36,7 +36,7 @@ pub record HasRun (known : List ℕ → Option (List ℕ)) (file derivation sche
   pub is_derivation : IsDerivationOf program steps
   pub is_schedule : IsSchedule program lines recorded
   pub declared : slice_get program.replicas recorded.declaration ≡ Some R
-  pub joins : JoinsOn program R
+  pub joins : MergeJoins program R
   pub wrote : Appends out.old out.new printed
   pub is : Is program recorded printed
 

@@ -1,13 +1,12 @@
 -- What the table of causes says of every call of `run`.
-use Rattle.std.specs.Prelude.{◌≡◌, ◌≢◌, ℕ, ◌+◌, ◌<◌, ◌≤◌, ◌⊎◌, List, ◌++◌, length, Some, slice_get}
+use Rattle.std.specs.Prelude.{◌≡◌, ℕ, ◌<◌, ◌⊎◌, List, length, Some, slice_get}
 use Rattle.px_terms.specs.declared.program.ReplicaDef.{ReplicaDef}
 use Rattle.px_terms.specs.declared.program.Program.{Program}
 use Rattle.px_replay.specs.declared.ends.Why.{Why}
 use Rattle.px_schedule.specs.declared.schedule.Schedule.{Schedule as Recorded}
 use Rattle.px_schedule.specs.declared.schedule_end.ScheduleKind.{ScheduleKind}
 use Rattle.px_schedule.specs.Schedules.{IsSchedule, IsFault}
-use Rattle.px_replicas.specs.Joins.{JoinsOn, AreOfState, Needs}
-use Rattle.px_replicas.specs.Lines.{AreLines}
+use Rattle.px_replicas.specs.Joins.{MergeJoins}
 use Rattle.px_world.specs.Known.{Told, IsLonger}
 use Rattle.px_drive.specs.declared.outcome.CommandLine.TheVariants.{Run}
 use Rattle.px_drive.specs.declared.outcome.Which.TheVariants as which
@@ -19,35 +18,12 @@ use Rattle.px_drive.specs.Derivations.{IsDerivationOf, IsRejected}
 use Rattle.px_drive.specs.Ends.{limit_of, LineEnds}
 use Rattle.px_drive.specs.Completeness.{HasText}
 use Rattle.px_drive.specs.Laws.{IsRefused}
-use Rattle.px_drive.specs.Recordings.{IsWholeRun, IsSpentRun, IsCutRun, ShowsAgree}
+use Rattle.px_drive.specs.Recordings.{IsWholeRun, IsSpentRun}
 
 -- where the program of a text has a derivation, the merge of each of its replica declarations is commutative, associative and idempotent in
 -- the language's meaning
 abbrev pub MergesJoin : Type 0
-MergesJoin = (text steps : List ℕ) (P : Program) (number : ℕ) (R : ReplicaDef) → IsSource text P → IsDerivationOf P steps → slice_get P.replicas number ≡ Some R → JoinsOn P R
-
--- a schedule is one of a replica declaration, and its values are of the type of the declaration's state
-abbrev pub SchedulesAreDeclared : Type 0
-SchedulesAreDeclared = (P : Program) (lines : List ℕ) (S : Recorded) → IsSchedule P lines S → (R : ReplicaDef) × (slice_get P.replicas S.declaration ≡ Some R) × AreOfState P R S.events
-
--- the lines of a schedule's first shows go on to those of all its shows, where the merge is a join
-abbrev pub LinesGoOn : Type 0
-LinesGoOn = (P : Program) (lines : List ℕ) (S : Recorded) (R : ReplicaDef) (place : ℕ) (printed : List ℕ) → IsSchedule P lines S → slice_get P.replicas S.declaration ≡ Some R → JoinsOn P R
-    → place ≤ length S.events → AreLines P R S.events place printed → (behind : List ℕ) × AreLines P R S.events (length S.events) (printed ++ behind)
-
--- a schedule's first shows have at most one text
-abbrev pub OneText : Type 0
-OneText = (P : Program) (lines : List ℕ) (S : Recorded) (R : ReplicaDef) (place : ℕ) (one other : List ℕ) → IsSchedule P lines S → slice_get P.replicas S.declaration ≡ Some R → JoinsOn P R
-    → AreLines P R S.events place one → AreLines P R S.events place other → one ≡ other
-
--- an event asks for one number of calls at most
-abbrev pub OneNeed : Type 0
-OneNeed = (P : Program) (lines : List ℕ) (S : Recorded) (R : ReplicaDef) (place calls other : ℕ) → IsSchedule P lines S → slice_get P.replicas S.declaration ≡ Some R → JoinsOn P R
-    → Needs P R S.events place calls → Needs P R S.events place other → calls ≡ other
-
--- two shows with the same numbers have the same text
-abbrev pub ShowsOfJoinsAgree : Type 0
-ShowsOfJoinsAgree = (P : Program) (lines : List ℕ) (S : Recorded) (R : ReplicaDef) → IsSchedule P lines S → slice_get P.replicas S.declaration ≡ Some R → JoinsOn P R → ShowsAgree P R S.events
+MergesJoin = (text steps : List ℕ) (P : Program) (number : ℕ) (R : ReplicaDef) → IsSource text P → IsDerivationOf P steps → slice_get P.replicas number ≡ Some R → MergeJoins P R
 
 -- The texts of a run, which are the files' where these are told, are a program, a derivation of it and a schedule.
 pub record HasTexts (files : FilesSeen) (file derivation schedule : List ℕ) (P : Program) (S : Recorded) : Type 0 where

@@ -29,6 +29,12 @@ mod run_tests;
 mod run_texts;
 #[cfg(test)]
 mod row_tests;
+mod run;
+pub mod run_laws;
+#[cfg(test)]
+mod run_tests;
+#[cfg(test)]
+mod run_texts;
 mod stages;
 #[cfg(test)]
 mod tests;

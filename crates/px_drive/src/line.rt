@@ -88,8 +88,7 @@ fn read_run(alloc: Global, args: &[String]) -> Result<CommandLine, End>
         [file, derivation, schedule]
             if names_file(file.as_str())
                 && names_file(derivation.as_str())
-                && names_file(schedule.as_str()) =>
-        {
+                && names_file(schedule.as_str()) => {
             let file = copy_word(alloc, file.as_str())?;
             let derivation = copy_word(alloc, derivation.as_str())?;
             let schedule = copy_word(alloc, schedule.as_str())?;

@@ -15,7 +15,8 @@ use px_types::TypeKind;
 use px_world::{Sink, WriteFault, write_all};
 
 /// The line of words that are no plain line.
-const USAGE: &[u8] = b"usage: propel check F | replay F D | eval F NAME V.. [--calls N] | run F D S [--calls N]\n";
+const USAGE: &[u8] =
+    b"usage: propel check F | replay F D | eval F NAME V.. [--calls N] | run F D S [--calls N]\n";
 
 /// The status that the program ends with: 0 where the work is done, and a number of its own for each
 /// kind of refusal.

@@ -4,7 +4,7 @@ ghost use Rattle.std.specs.List.{join_by};
 ghost use Rattle.std.specs.Fmt.{decimal};
 ghost use Rattle.px_terms.specs.declared.program.ReplicaDef.{ReplicaDef};
 ghost use Rattle.px_schedule.specs.Schedules.{IsSchedule};
-ghost use Rattle.px_replicas.specs.Joins.{JoinsOn};
+ghost use Rattle.px_replicas.specs.Joins.{MergeJoins};
 ghost use Rattle.px_replicas.specs.Lines.{show_line};
 ghost use Rattle.px_drive.specs.Ends.{Runs, RunsEvents, end_of, Schedules};
 ghost use Rattle.px_drive.specs.Printing.{HasPrinted, PrintsShown, line_shown, end_of_event};
@@ -76,7 +76,7 @@ fn run_events<O: Sink>(
     out: &mut O,
 ) -> Result<(), End>
     requires lines { (lines : List ℕ) × IsSchedule checked.now lines schedule.now }
-    requires joins { (R : ReplicaDef) → slice_get checked.now.replicas schedule.now.declaration ≡ Some R → JoinsOn checked.now R }
+    requires joins { (R : ReplicaDef) → slice_get checked.now.replicas schedule.now.declaration ≡ Some R → MergeJoins checked.now R }
     ensures runs { HasPrinted (RunsEvents checked.now schedule.now calls) (sink_seen O.Sink out.old out.new) (end_of result) }
     ensures later { O.faults out.old ≤ O.faults out.new }
 {
@@ -125,7 +125,7 @@ fn print_shown<O: Sink>(
 
 /// The line of a show: the replica, the numbers of the updates that it holds, and its state.
 fn line_of(alloc: Global, names: &Names, shown: &Shown) -> Result<Bytes, NoMemory>
-    ensures { IfOk result (λ line. line ≡ show_line names.now shown.now.replica shown.now.numbers shown.now.value) }
+    ensures { IfOk result (λ line. line ≡ show_line names.now shown.now) }
 {
     let mut digits = Buffer::new();
     let value = shown.value.print(alloc, names)?;

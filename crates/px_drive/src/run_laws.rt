@@ -1,12 +1,12 @@
 //! What the table of causes says of every call of `run`, as functions whose contracts are these laws.
 
-ghost use Rattle.px_drive.specs.RunLaws.{MergesJoin, SchedulesAreDeclared, LinesGoOn, OneText, OneNeed, ShowsOfJoinsAgree, DoneIsRun, SpentIsFirst, RunIsRefused, RefusedIsNotRun, ScheduleIsFaulty, FaultyIsSchedule, TooLongForRunIsLonger, LongScheduleIsTooLong, FirstIsSpent};
+ghost use Rattle.px_drive.specs.RunLaws.{MergesJoin, DoneIsRun, SpentIsFirst, RunIsRefused, RefusedIsNotRun, ScheduleIsFaulty, FaultyIsSchedule, TooLongForRunIsLonger, LongScheduleIsTooLong, FirstIsSpent};
 
 use crate::laws::{
     accepted_is_true, never_both, never_rejected, one_rejection, one_source, source_is_checked,
 };
+use px_replicas::{declared_merges_join, one_need};
 use px_schedule::{never_both as never_schedule_and_fault, one_fault, one_schedule};
-use px_totality::{arguments_fit, declared_is_had, each_call_has_value, implied_is_true};
 
 /// Where the program of a text has a derivation, the merge of each of its replica declarations is commutative, associative and
 /// idempotent in the language's meaning.
@@ -15,43 +15,7 @@ pub fn merges_join()
 {
     accepted_is_true();
     source_is_checked();
-    arguments_fit();
-    declared_is_had();
-    implied_is_true();
-    each_call_has_value();
-}
-
-/// A schedule is one of a replica declaration, and its values are of the type of the declaration's state.
-pub fn schedules_are_declared()
-    ensures { SchedulesAreDeclared }
-{}
-
-/// The lines of a schedule's first shows go on to those of all its shows, where the merge is a join.
-pub fn lines_go_on()
-    ensures { LinesGoOn }
-{
-    schedules_are_declared();
-}
-
-/// A schedule's first shows have at most one text.
-pub fn one_text()
-    ensures { OneText }
-{
-    schedules_are_declared();
-}
-
-/// An event asks for one number of calls at most.
-pub fn one_need()
-    ensures { OneNeed }
-{
-    schedules_are_declared();
-}
-
-/// Two shows with the same numbers have the same text.
-pub fn shows_of_joins_agree()
-    ensures { ShowsOfJoinsAgree }
-{
-    schedules_are_declared();
+    declared_merges_join();
 }
 
 /// Where `run` ends `Done`, all lines were printed, and each event is within the budget.

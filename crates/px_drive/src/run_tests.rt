@@ -21,11 +21,13 @@ const ONE_CALL: Call<'static> = Call {
 };
 
 /// A message is lost, one comes twice, and one after a later one.
-const ASTRAY: &[u8] = b"replicas s 2\nupdate 0 Cons(5, Nil)\nupdate 1 Cons(3, Nil)\nsend 0\nsend 1\n\
+const ASTRAY: &[u8] =
+    b"replicas s 2\nupdate 0 Cons(5, Nil)\nupdate 1 Cons(3, Nil)\nsend 0\nsend 1\n\
 update 0 Cons(9, Nil)\nsend 0\nsend 1\ndeliver 1 0\ndeliver 2 1\ndeliver 0 1\ndeliver 2 1\nshow 0\nshow 1\n";
 
 /// What a message holds is what its sender held when it was sent.
-const SENT: &[u8] = b"replicas s 2\nupdate 0 Cons(1, Nil)\nsend 0\nupdate 0 Cons(2, Nil)\ndeliver 0 1\nshow 1\nshow 0\n";
+const SENT: &[u8] =
+    b"replicas s 2\nupdate 0 Cons(1, Nil)\nsend 0\nupdate 0 Cons(2, Nil)\ndeliver 0 1\nshow 1\nshow 0\n";
 
 /// What that schedule prints.
 const SENT_SHOWN: &str = "1 [0] Cons(1, Nil)\n0 [0,1] Cons(1, Cons(2, Nil))\n";
@@ -33,12 +35,23 @@ const SENT_SHOWN: &str = "1 [0] Cons(1, Nil)\n0 [0,1] Cons(1, Cons(2, Nil))\n";
 /// Calls over schedules, each with its status, its output and its errors.
 const RUNS: [(Call<'static>, u8, &str, &str); 12] = [
     (
-        Call { schedule: ASTRAY, ..RUN },
+        Call {
+            schedule: ASTRAY,
+            ..RUN
+        },
         0,
         "0 [0,1,2] Cons(3, Cons(5, Cons(9, Nil)))\n1 [0,1,2] Cons(3, Cons(5, Cons(9, Nil)))\n",
         "",
     ),
-    (Call { schedule: SENT, ..RUN }, 0, SENT_SHOWN, ""),
+    (
+        Call {
+            schedule: SENT,
+            ..RUN
+        },
+        0,
+        SENT_SHOWN,
+        "",
+    ),
     (
         Call {
             words: &["run", "p", "d", "s", "--calls", "1000000000"],
@@ -51,7 +64,10 @@ const RUNS: [(Call<'static>, u8, &str, &str); 12] = [
     ),
     // The second update takes two calls.
     (
-        Call { schedule: SENT, ..ONE_CALL },
+        Call {
+            schedule: SENT,
+            ..ONE_CALL
+        },
         7,
         "",
         "spent: event 3\n",
@@ -102,7 +118,10 @@ deliver 0 0\nshow 0\nshow 1\n",
         "rejected: line 1 order\n",
     ),
     (
-        Call { words: &["run", "p", "d", "q"], ..RUN },
+        Call {
+            words: &["run", "p", "d", "q"],
+            ..RUN
+        },
         8,
         "",
         "read fault\n",
@@ -129,7 +148,10 @@ deliver 0 0\nshow 0\nshow 1\n",
         "schedule: line 1 unknown-replica-type\n",
     ),
     (
-        Call { words: &["run", "p", "d"], ..RUN },
+        Call {
+            words: &["run", "p", "d"],
+            ..RUN
+        },
         2,
         "",
         "usage: propel check F | replay F D | eval F NAME V.. [--calls N] | run F D S [--calls N]\n",
@@ -141,27 +163,75 @@ const SCHEDULES: [(&[u8], &str, &str); 24] = [
     (b"replicas s 1\n", "", ""),
     (b"replicas s 1\nshow 0\n", "0 [] Nil\n", ""),
     (b"replicas s 64\nshow 63\n", "63 [] Nil\n", ""),
-    (b"replicas s 1\nupdate 0  Cons( 007 ,Nil ) \nshow 0\n", "0 [0] Cons(7, Nil)\n", ""),
-    (b"replicas s 1\nupdate 0 Nil\nupdate 0 Nil\nshow 0\n", "0 [0,1] Nil\n", ""),
+    (
+        b"replicas s 1\nupdate 0  Cons( 007 ,Nil ) \nshow 0\n",
+        "0 [0] Cons(7, Nil)\n",
+        "",
+    ),
+    (
+        b"replicas s 1\nupdate 0 Nil\nupdate 0 Nil\nshow 0\n",
+        "0 [0,1] Nil\n",
+        "",
+    ),
     (b"", "", "schedule: line 1 form\n"),
     (b"\n", "", "schedule: line 1 form\n"),
     (b"replicas s 1", "", "schedule: line 1 form\n"),
     (b"replicas s 01\n", "", "schedule: line 1 form\n"),
     (b"show 0\n", "", "schedule: line 1 form\n"),
-    (b"replicas s 1\nreplicas s 1\n", "", "schedule: line 2 form\n"),
+    (
+        b"replicas s 1\nreplicas s 1\n",
+        "",
+        "schedule: line 2 form\n",
+    ),
     (b"replicas s 1\nshow  0\n", "", "schedule: line 2 form\n"),
     (b"replicas s 1\nupdate 0\n", "", "schedule: line 2 form\n"),
-    (b"replicas s 1\nshow 0\nshow 0", "", "schedule: line 3 form\n"),
-    (b"replicas t 2\n", "", "schedule: line 1 unknown-replica-type\n"),
-    (b"replicas union 2\n", "", "schedule: line 1 unknown-replica-type\n"),
-    (b"replicas t 65\n", "", "schedule: line 1 unknown-replica-type\n"),
+    (
+        b"replicas s 1\nshow 0\nshow 0",
+        "",
+        "schedule: line 3 form\n",
+    ),
+    (
+        b"replicas t 2\n",
+        "",
+        "schedule: line 1 unknown-replica-type\n",
+    ),
+    (
+        b"replicas union 2\n",
+        "",
+        "schedule: line 1 unknown-replica-type\n",
+    ),
+    (
+        b"replicas t 65\n",
+        "",
+        "schedule: line 1 unknown-replica-type\n",
+    ),
     (b"replicas s 65\n", "", "schedule: line 1 too-many\n"),
     (b"replicas s 0\n", "", "schedule: line 1 too-many\n"),
-    (b"replicas s 2\ndeliver 0 1\n", "", "schedule: line 2 no-such-message\n"),
-    (b"replicas s 2\nsend 0\ndeliver 1 2\n", "", "schedule: line 3 no-such-message\n"),
-    (b"replicas s 2\nsend 0\ndeliver 0 2\n", "", "schedule: line 3 no-such-replica\n"),
-    (b"replicas s 2\nupdate 2 Cons\n", "", "schedule: line 2 no-such-replica\n"),
-    (b"replicas s 2\nupdate 1 Cons(Nil, Nil)\n", "", "schedule: line 2 bad-value\n"),
+    (
+        b"replicas s 2\ndeliver 0 1\n",
+        "",
+        "schedule: line 2 no-such-message\n",
+    ),
+    (
+        b"replicas s 2\nsend 0\ndeliver 1 2\n",
+        "",
+        "schedule: line 3 no-such-message\n",
+    ),
+    (
+        b"replicas s 2\nsend 0\ndeliver 0 2\n",
+        "",
+        "schedule: line 3 no-such-replica\n",
+    ),
+    (
+        b"replicas s 2\nupdate 2 Cons\n",
+        "",
+        "schedule: line 2 no-such-replica\n",
+    ),
+    (
+        b"replicas s 2\nupdate 1 Cons(Nil, Nil)\n",
+        "",
+        "schedule: line 2 bad-value\n",
+    ),
 ];
 
 #[test]
@@ -176,7 +246,14 @@ fn each_run_has_its_end(rt: HostRuntime) -> Result<(), Fail> {
 fn each_schedule_has_its_lines_or_its_fault(rt: HostRuntime) -> Result<(), Fail> {
     for (schedule, printed, told) in SCHEDULES {
         let wanted = if told.is_empty() { 0 } else { 6 };
-        expect(&rt, rt.alloc(), &Call { schedule, ..RUN }, wanted, printed, told)?;
+        expect(
+            &rt,
+            rt.alloc(),
+            &Call { schedule, ..RUN },
+            wanted,
+            printed,
+            told,
+        )?;
     }
     Ok(())
 }
@@ -208,7 +285,13 @@ fn limits_of_schedules_are_kept(rt: HostRuntime) -> Result<(), Fail> {
     let full = sendings(alloc, 20_000)?;
     expect_silent(&rt, alloc, full.as_slice(), 0, "")?;
     let more = sendings(alloc, 20_001)?;
-    expect_silent(&rt, alloc, more.as_slice(), 6, "schedule: line 20002 too-many\n")?;
+    expect_silent(
+        &rt,
+        alloc,
+        more.as_slice(),
+        6,
+        "schedule: line 20002 too-many\n",
+    )?;
     let feeds = vec![in alloc; b'\n'; 8_388_609]?;
     expect_silent(&rt, alloc, &feeds[1..], 6, "schedule: line 1 form\n")?;
     expect_silent(&rt, alloc, &feeds, 11, "too long: schedule\n")
