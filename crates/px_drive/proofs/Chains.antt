@@ -5,7 +5,7 @@ use Rattle.px_world.specs.declared.files.Files as files
 use Rattle.px_drive.specs.declared.outcome.CommandLine.{CommandLine}
 use Rattle.px_drive.specs.declared.outcome.Which.{Which}
 use Rattle.px_drive.specs.declared.outcome.End.{End}
-use Rattle.px_drive.specs.declared.outcome.End.TheVariants.{Done, Usage, Source, Rejected, Spent, ReadFault, WriteFault, NoMemory, TooLong, Arguments}
+use Rattle.px_drive.specs.declared.outcome.End.TheVariants.{Done, Usage, Source, Rejected, Schedule, Spent, ReadFault, WriteFault, NoMemory, TooLong, Arguments}
 use Rattle.px_drive.specs.Lines.{ReadsLine}
 use Rattle.px_drive.specs.Seen.{FilesSeen, SinkSeen, files_seen, KeepsFiles}
 use Rattle.px_drive.specs.Ends.{ReadsText, ReadsSource, Runs, end_of}
@@ -34,6 +34,7 @@ read_later {F} device old mid new text name result keeps reads = by_result resul
     by_result (Err NoMemory) is = is
     by_result (Err Done) is = is
     by_result (Err Usage) is = is
+    by_result (Err (Schedule at rule)) is = is
     by_result (Err (Source fault)) is = is
     by_result (Err (Rejected number why)) is = is
     by_result (Err (Spent event)) is = is

@@ -9,7 +9,7 @@ use Rattle.px_drive.specs.declared.outcome.CommandLine.TheVariants.{Check, Repla
 use Rattle.px_drive.specs.declared.outcome.Which.{Which}
 use Rattle.px_drive.specs.declared.outcome.Which.TheVariants as which
 use Rattle.px_drive.specs.declared.outcome.End.{End}
-use Rattle.px_drive.specs.declared.outcome.End.TheVariants.{Done, Usage, Source, Rejected, Spent, ReadFault, WriteFault, NoMemory, TooLong, Arguments}
+use Rattle.px_drive.specs.declared.outcome.End.TheVariants.{Done, Usage, Source, Rejected, Schedule, Spent, ReadFault, WriteFault, NoMemory, TooLong, Arguments}
 use Rattle.px_drive.specs.declared.outcome.Outcome.{Outcome}
 use Rattle.px_drive.specs.Lines.{line_of, ReadsLine}
 use Rattle.px_machine.specs.ValueText.{value_text}
@@ -44,6 +44,7 @@ read_whole text files name bytes (Err ReadFault) has calm reads = absurd (calm r
 read_whole text files name bytes (Err NoMemory) has calm reads = inr refl
 read_whole text files name bytes (Err Done) has calm reads = absurd reads
 read_whole text files name bytes (Err Usage) has calm reads = absurd reads
+read_whole text files name bytes (Err (Schedule at rule)) has calm reads = absurd reads
 read_whole text files name bytes (Err (Source fault)) has calm reads = absurd reads
 read_whole text files name bytes (Err (Rejected number why)) has calm reads = absurd reads
 read_whole text files name bytes (Err (Spent event)) has calm reads = absurd reads
@@ -64,6 +65,7 @@ source_ends never_both text program (Source fault) source h = absurd (never_both
 source_ends never_both text program NoMemory source h = inr refl
 source_ends never_both text program Done source h = absurd h
 source_ends never_both text program Usage source h = absurd h
+source_ends never_both text program (Schedule at rule) source h = absurd h
 source_ends never_both text program (Rejected number why) source h = absurd h
 source_ends never_both text program (Spent event) source h = absurd h
 source_ends never_both text program (Arguments kind word) source h = absurd h
@@ -76,6 +78,7 @@ accepts_ends never program bytes (Rejected number why) derivation h = absurd (ne
 accepts_ends never program bytes NoMemory derivation h = inr refl
 accepts_ends never program bytes Done derivation h = absurd h
 accepts_ends never program bytes Usage derivation h = absurd h
+accepts_ends never program bytes (Schedule at rule) derivation h = absurd h
 accepts_ends never program bytes (Source fault) derivation h = absurd h
 accepts_ends never program bytes ReadFault derivation h = absurd h
 accepts_ends never program bytes WriteFault derivation h = absurd h
@@ -88,6 +91,7 @@ prints_ends line out Done printed calm h = inl refl
 prints_ends line out WriteFault printed calm h = absurd (calm h.0)
 prints_ends line out NoMemory printed calm h = absurd h
 prints_ends line out Usage printed calm h = absurd h
+prints_ends line out (Schedule at rule) printed calm h = absurd h
 prints_ends line out (Source fault) printed calm h = absurd h
 prints_ends line out (Rejected number why) printed calm h = absurd h
 prints_ends line out (Spent event) printed calm h = absurd h

@@ -7,6 +7,8 @@ pub mod Chains
 pub mod WordFacts
 pub mod ArgumentFacts
 pub mod EvalEnds
+pub mod RunEnds
+pub mod RunSteps
 pub mod Causes
 pub mod TextEnds
 pub mod ReplayEnds

@@ -6,7 +6,7 @@ use Rattle.px_drive.specs.declared.outcome.CommandLine.TheVariants.{Replay}
 use Rattle.px_drive.specs.declared.outcome.Which.{Which}
 use Rattle.px_drive.specs.declared.outcome.Which.TheVariants as which
 use Rattle.px_drive.specs.declared.outcome.End.{End}
-use Rattle.px_drive.specs.declared.outcome.End.TheVariants.{Done, Usage, Source, Rejected, Spent, ReadFault, WriteFault, NoMemory, TooLong, Arguments}
+use Rattle.px_drive.specs.declared.outcome.End.TheVariants.{Done, Usage, Source, Rejected, Schedule, Spent, ReadFault, WriteFault, NoMemory, TooLong, Arguments}
 use Rattle.px_drive.specs.Seen.{FilesSeen, SinkSeen}
 use Rattle.px_drive.specs.Messages.{accepted_line}
 use Rattle.px_drive.specs.Ends.{limit_of, ReadsText, Accepts, Prints, AndThen}
@@ -25,6 +25,7 @@ accepts_ends one source P is bytes number why (Rejected line reason) rejected h 
 accepts_ends one source P is bytes number why NoMemory rejected h = inr (inr refl)
 accepts_ends one source P is bytes number why Done rejected h = absurd h
 accepts_ends one source P is bytes number why Usage rejected h = absurd h
+accepts_ends one source P is bytes number why (Schedule at rule) rejected h = absurd h
 accepts_ends one source P is bytes number why (Source fault) rejected h = absurd h
 accepts_ends one source P is bytes number why ReadFault rejected h = absurd h
 accepts_ends one source P is bytes number why WriteFault rejected h = absurd h
@@ -60,6 +61,7 @@ long_ends text files name ReadFault h = inr (inl refl)
 long_ends text files name NoMemory h = inr (inr refl)
 long_ends text files name Done h = absurd h
 long_ends text files name Usage h = absurd h
+long_ends text files name (Schedule at rule) h = absurd h
 long_ends text files name (Source fault) h = absurd h
 long_ends text files name (Rejected number why) h = absurd h
 long_ends text files name (Spent event) h = absurd h

@@ -4,7 +4,7 @@ use Rattle.px_world.specs.Faults.{Rose}
 use Rattle.px_drive.specs.declared.outcome.CommandLine.{CommandLine}
 use Rattle.px_drive.specs.declared.outcome.CommandLine.TheVariants.{Check, Replay, Eval}
 use Rattle.px_drive.specs.declared.outcome.End.{End}
-use Rattle.px_drive.specs.declared.outcome.End.TheVariants.{Done, Usage, Source, Rejected, Spent, ReadFault, WriteFault, NoMemory, TooLong, Arguments}
+use Rattle.px_drive.specs.declared.outcome.End.TheVariants.{Done, Usage, Source, Rejected, Schedule, Spent, ReadFault, WriteFault, NoMemory, TooLong, Arguments}
 use Rattle.px_drive.specs.declared.outcome.SourceFault.TheVariants.{Lex, Parse, Scope, Typing, Descent}
 use Rattle.px_drive.specs.declared.outcome.Outcome.{Outcome}
 use Rattle.px_drive.specs.Answers.{Ends, Tells, IsAnswer}
@@ -61,6 +61,7 @@ broken_of_line words files out line (Source (Typing kind at)) law ends = tt
 broken_of_line words files out line (Source (Descent def call)) law ends = tt
 broken_of_line words files out line Done law ends = tt
 broken_of_line words files out line Usage law ends = tt
+broken_of_line words files out line (Schedule at rule) law ends = tt
 broken_of_line words files out line (Rejected number why) law ends = tt
 broken_of_line words files out line (Spent event) law ends = tt
 broken_of_line words files out line (Arguments kind word) law ends = tt

@@ -1,5 +1,5 @@
 -- What the run of a schedule makes of its events.
-use Rattle.std.specs.Prelude.{◌≡◌, ℕ, ◌+◌, List, [], Option}
+use Rattle.std.specs.Prelude.{ℕ, ◌+◌, List, [], Option, Result, Ok, Err}
 use Rattle.std.specs.Io.KnownBytes.{Appends}
 use Rattle.px_base.specs.declared.names.Names.{Names}
 use Rattle.px_machine.specs.declared.run_end.RunEnd.{RunEnd}
@@ -9,7 +9,7 @@ use Rattle.px_replicas.specs.Lines.{show_lines, shown_list}
 use Rattle.px_world.specs.Faults.{Rose}
 use Rattle.px_world.specs.Known.{AppendsPrefix}
 use Rattle.px_drive.specs.declared.outcome.End.{End}
-use Rattle.px_drive.specs.declared.outcome.End.TheVariants.{Done, Spent, WriteFault, NoMemory}
+use Rattle.px_drive.specs.declared.outcome.End.TheVariants.{Spent, WriteFault, NoMemory}
 use Rattle.px_drive.specs.Seen.{SinkSeen}
 
 -- what was printed up to an end
@@ -26,8 +26,8 @@ abbrev pub line_shown : Names → Option Shown → List ℕ
 line_shown names answer = show_lines names (shown_list answer)
 
 -- the line was printed whole; or a front of it, and the count of the sink rose; or nothing, for want of memory
-abbrev pub PrintsShown : List ℕ → SinkSeen → End → Type 0
-PrintsShown line out Done = Appends out.old out.new line
-PrintsShown line out WriteFault = AppendsPrefix out.old out.new line × Rose out.before out.after
-PrintsShown line out NoMemory = Appends out.old out.new []
-PrintsShown line out _ = ⊥
+abbrev pub PrintsShown : List ℕ → SinkSeen → Result (Unit {0}) End → Type 0
+PrintsShown line out (Ok _) = Appends out.old out.new line
+PrintsShown line out (Err WriteFault) = AppendsPrefix out.old out.new line × Rose out.before out.after
+PrintsShown line out (Err NoMemory) = Appends out.old out.new []
+PrintsShown line out (Err _) = ⊥

@@ -19,7 +19,7 @@ use itoa::Buffer;
 use px_compile::compile;
 use px_descent::Checked;
 use px_machine::RunEnd;
-use px_replicas::{Shown, World};
+use px_replicas::{Shown, World, lines_go_on, next_fits, schedules_may_happen};
 use px_schedule::{Schedule, read_schedule};
 use px_terms::{Names, NoMemory, Text};
 use px_world::{Bytes, Files, Sink};
@@ -80,6 +80,9 @@ fn run_events<O: Sink>(
     ensures runs { HasPrinted (RunsEvents checked.now schedule.now calls) (sink_seen O.Sink out.old out.new) (end_of result) }
     ensures later { O.faults out.old ≤ O.faults out.new }
 {
+    schedules_may_happen();
+    next_fits();
+    lines_go_on();
     let code = compile(alloc, checked)?;
     let names = &checked.program().names;
     let events = schedule.events.as_slice();
@@ -113,7 +116,7 @@ fn print_shown<O: Sink>(
     shown: Option<Shown>,
     out: &mut O,
 ) -> Result<(), End>
-    ensures prints { PrintsShown (line_shown names.now shown) (sink_seen O.Sink out.old out.new) (end_of result) }
+    ensures prints { PrintsShown (line_shown names.now shown) (sink_seen O.Sink out.old out.new) result }
     ensures later { O.faults out.old ≤ O.faults out.new }
 {
     if let Some(shown) = shown {
