@@ -265,6 +265,7 @@ usage_is_by_words words files out None Usage h = (λ _. h.0, λ _. inl refl)
 usage_is_by_words words files out None NoMemory h = (λ (e : NoMemory ≡ Usage). (cc), λ _. inr refl)
 usage_is_by_words words files out None Done h = absurd h.0
 usage_is_by_words words files out None (Source fault) h = absurd h.0
+usage_is_by_words words files out None (Schedule number kind) h = absurd h.0
 usage_is_by_words words files out None (Rejected number why) h = absurd h.0
 usage_is_by_words words files out None (Spent event) h = absurd h.0
 usage_is_by_words words files out None (Arguments kind word) h = absurd h.0

@@ -10,8 +10,10 @@ pub mod EvalEnds
 pub mod RunEnds
 pub mod RunSteps
 pub mod Causes
+pub mod RunCauses
 pub mod TextEnds
 pub mod ReplayEnds
+pub mod RunChances
 pub mod ArgumentEnds
 pub mod LineStages
 pub mod CallFacts

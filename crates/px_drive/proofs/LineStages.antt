@@ -37,6 +37,10 @@ pub runs_ended : {files : FilesSeen} {out : SinkSeen} {line : CommandLine} (resu
     → Goes files out line program end printed → Appends out.old out.new printed → Runs files out line (end_of result)
 runs_ended {files} {out} {line} result end is printed program reads goes wrote = passed_on result end is (record { printed = printed; allowed = read files out line program end printed reads goes; wrote = wrote })
 
+-- a line that ends as it goes on
+pub runs_on : {files : FilesSeen} {out : SinkSeen} {line : CommandLine} (end : End) (printed : List ℕ) (program : Program) → ReadsSource files (program_of line) (Ok program) → Goes files out line program end printed → Appends out.old out.new printed → Runs files out line end
+runs_on {files} {out} {line} end printed program reads goes wrote = record { printed = printed; allowed = read files out line program end printed reads goes; wrote = wrote }
+
 -- a line that is done
 pub runs_done : {files : FilesSeen} {out : SinkSeen} {line : CommandLine} (printed : List ℕ) (program : Program) → ReadsSource files (program_of line) (Ok program) → Goes files out line program Done printed → Appends out.old out.new printed → Runs files out line Done
 runs_done {files} {out} {line} printed program reads goes wrote = record { printed = printed; allowed = read files out line program Done printed reads goes; wrote = wrote }

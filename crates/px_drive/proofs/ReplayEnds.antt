@@ -18,7 +18,7 @@ use Rattle.px_drive.proofs.Causes.{Goes, told_is, not_whole}
 use Rattle.px_drive.proofs.TextEnds.{IsChance, unread_ends, program_read}
 
 -- the one refusal of bytes that are rejected
-accepts_ends : OneRejection → (source : List ℕ) (P : Program) → IsSource source P → (bytes : List ℕ) (number : ℕ) (why : Why) (end : End) → IsRejected P bytes number why → Accepts P bytes (Err end) → (end ≡ Rejected number why) ⊎ IsChance end
+pub accepts_ends : OneRejection → (source : List ℕ) (P : Program) → IsSource source P → (bytes : List ℕ) (number : ℕ) (why : Why) (end : End) → IsRejected P bytes number why → Accepts P bytes (Err end) → (end ≡ Rejected number why) ⊎ IsChance end
 accepts_ends one source P is bytes number why (Rejected line reason) rejected h =
     let same = one source P is bytes line number reason why h rejected in
     inl (ap (λ (n : ℕ). Rejected n reason) same.0 ∙ ap (λ (w : Why). Rejected number w) same.1)
@@ -55,7 +55,7 @@ refused_is_rejected_law one_source never_both never one files out file derivatio
     either (inr goes) = rejected_ends never one files out file derivation printed text steps P number why end source has_steps rejected goes
 
 -- a told text over its limit is too long, but by a fault or for want of memory
-long_ends : (text : Which) (files : FilesSeen) (name : List ℕ) (end : End) → ReadsText text files name (Err end) → (end ≡ TooLong text) ⊎ IsChance end
+pub long_ends : (text : Which) (files : FilesSeen) (name : List ℕ) (end : End) → ReadsText text files name (Err end) → (end ≡ TooLong text) ⊎ IsChance end
 long_ends text files name (TooLong long) (is, _) = inl (ap TooLong is)
 long_ends text files name ReadFault h = inr (inl refl)
 long_ends text files name NoMemory h = inr (inr refl)

@@ -11,7 +11,7 @@ pub mod Printing
 pub mod Ends
 pub mod Answers
 pub mod Laws
-pub mod RunLaws
 pub mod Completeness
 pub mod Headline
 pub mod RunHeadline
+pub mod RunLaws

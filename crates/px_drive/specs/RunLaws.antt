@@ -1,5 +1,5 @@
 -- What the table of causes says of every call of `run`.
-use Rattle.std.specs.Prelude.{◌≡◌, ℕ, ◌<◌, ◌⊎◌, List, length, Some, slice_get}
+use Rattle.std.specs.Prelude.{◌≡◌, ℕ, ◌<◌, ◌⊎◌, List, [], length, Some, slice_get}
 use Rattle.px_terms.specs.declared.program.ReplicaDef.{ReplicaDef}
 use Rattle.px_terms.specs.declared.program.Program.{Program}
 use Rattle.px_replay.specs.declared.ends.Why.{Why}
@@ -7,6 +7,7 @@ use Rattle.px_schedule.specs.declared.schedule.Schedule.{Schedule as Recorded}
 use Rattle.px_schedule.specs.declared.schedule_end.ScheduleKind.{ScheduleKind}
 use Rattle.px_schedule.specs.Schedules.{IsSchedule, IsFault}
 use Rattle.px_replicas.specs.Joins.{MergeJoins}
+use Rattle.px_replicas.specs.Lines.{AreLines}
 use Rattle.px_world.specs.Known.{Told, IsLonger}
 use Rattle.px_drive.specs.declared.outcome.CommandLine.TheVariants.{Run}
 use Rattle.px_drive.specs.declared.outcome.Which.TheVariants as which
@@ -18,12 +19,22 @@ use Rattle.px_drive.specs.Derivations.{IsDerivationOf, IsRejected}
 use Rattle.px_drive.specs.Ends.{limit_of, LineEnds}
 use Rattle.px_drive.specs.Completeness.{HasText}
 use Rattle.px_drive.specs.Laws.{IsRefused}
-use Rattle.px_drive.specs.Recordings.{IsWholeRun, IsSpentRun}
+use Rattle.px_drive.specs.Recordings.{IsWholeRun, IsSpentRun, IsCutRun, IsFrontRun}
+use Rattle.px_drive.specs.RunHeadline.{Agree}
 
 -- where the program of a text has a derivation, the merge of each of its replica declarations is commutative, associative and idempotent in
 -- the language's meaning
 abbrev pub MergesJoin : Type 0
 MergesJoin = (text steps : List ℕ) (P : Program) (number : ℕ) (R : ReplicaDef) → IsSource text P → IsDerivationOf P steps → slice_get P.replicas number ≡ Some R → MergeJoins P R
+
+-- a front of the lines of a schedule's first shows is one of the lines of all its shows
+abbrev pub CutIsFront : Type 0
+CutIsFront = (text lines : List ℕ) (P : Program) (S : Recorded) (R : ReplicaDef) (printed : List ℕ) → IsSource text P → IsSchedule P lines S → slice_get P.replicas S.declaration ≡ Some R → MergeJoins P R → IsCutRun P S printed
+    → IsFrontRun P S printed
+
+-- the lines of a schedule's shows agree: two of them with the same numbers have the same text of a state
+abbrev pub LinesAgree : Type 0
+LinesAgree = (P : Program) (R : ReplicaDef) (S : Recorded) (place : ℕ) (printed : List ℕ) → AreLines P R S.events place printed → Agree printed
 
 -- The texts of a run, which are the files' where these are told, are a program, a derivation of it and a schedule.
 pub record HasTexts (files : FilesSeen) (file derivation schedule : List ℕ) (P : Program) (S : Recorded) : Type 0 where
@@ -46,6 +57,11 @@ DoneIsRun = (files : FilesSeen) (out : SinkSeen) (file derivation schedule : Lis
 abbrev pub SpentIsFirst : Type 0
 SpentIsFirst = (files : FilesSeen) (out : SinkSeen) (file derivation schedule : List ℕ) (budget event : ℕ) (printed : List ℕ) → LineEnds files out (Run file derivation schedule budget) (Spent event) printed
     → (P : Program) × (S : Recorded) × HasTexts files file derivation schedule P S × IsSpentRun P S budget event printed
+
+-- where `run` ends with a fault of writing, or without memory, nothing was printed, or a front of the lines of its first shows
+abbrev pub CutIsRun : Type 0
+CutIsRun = (files : FilesSeen) (out : SinkSeen) (file derivation schedule : List ℕ) (budget : ℕ) (end : End) (printed : List ℕ) → LineEnds files out (Run file derivation schedule budget) end printed → (end ≡ WriteFault) ⊎ (end ≡ NoMemory)
+    → (printed ≡ []) ⊎ ((P : Program) × (S : Recorded) × HasTexts files file derivation schedule P S × IsCutRun P S printed)
 
 -- where `run` ends Rejected, the derivation was refused for its cause, whatever the schedule is
 abbrev pub RunIsRefused : Type 0

@@ -21,12 +21,6 @@ mod line;
 mod messages;
 mod outcome;
 mod refusals;
-mod run;
-pub mod run_laws;
-#[cfg(test)]
-mod run_tests;
-#[cfg(test)]
-mod run_texts;
 #[cfg(test)]
 mod row_tests;
 mod run;

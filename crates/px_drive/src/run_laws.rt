@@ -1,11 +1,11 @@
 //! What the table of causes says of every call of `run`, as functions whose contracts are these laws.
 
-ghost use Rattle.px_drive.specs.RunLaws.{MergesJoin, DoneIsRun, SpentIsFirst, RunIsRefused, RefusedIsNotRun, ScheduleIsFaulty, FaultyIsSchedule, TooLongForRunIsLonger, LongScheduleIsTooLong, FirstIsSpent};
+ghost use Rattle.px_drive.specs.RunLaws.{MergesJoin, CutIsFront, LinesAgree, CutIsRun, DoneIsRun, SpentIsFirst, RunIsRefused, RefusedIsNotRun, ScheduleIsFaulty, FaultyIsSchedule, TooLongForRunIsLonger, LongScheduleIsTooLong, FirstIsSpent};
 
 use crate::laws::{
     accepted_is_true, never_both, never_rejected, one_rejection, one_source, source_is_checked,
 };
-use px_replicas::{declared_merges_join, one_need};
+use px_replicas::{declared_merges_join, lines_go_on, one_need, one_output, schedules_may_happen};
 use px_schedule::{never_both as never_schedule_and_fault, one_fault, one_schedule};
 
 /// Where the program of a text has a derivation, the merge of each of its replica declarations is commutative, associative and
@@ -18,6 +18,23 @@ pub fn merges_join()
     declared_merges_join();
 }
 
+/// A front of the lines of a schedule's first shows is one of the lines of all its shows, in the program of a text, where the merge joins.
+pub fn cut_is_front()
+    ensures { CutIsFront }
+{
+    source_is_checked();
+    schedules_may_happen();
+    lines_go_on();
+    one_output();
+}
+
+/// The lines of a schedule's shows agree: two of them with the same numbers have the same text of a state.
+pub fn lines_agree()
+    ensures { LinesAgree }
+{
+    one_output();
+}
+
 /// Where `run` ends `Done`, all lines were printed, and each event is within the budget.
 pub fn done_is_run()
     ensures { DoneIsRun }
@@ -26,6 +43,11 @@ pub fn done_is_run()
 /// Where `run` ends `Spent`, the event of its number is the first that is not within the budget, and the lines before it were printed.
 pub fn spent_is_first()
     ensures { SpentIsFirst }
+{}
+
+/// Where `run` ends with a fault of writing, or without memory, nothing was printed, or a front of the lines of its first shows.
+pub fn cut_is_run()
+    ensures { CutIsRun }
 {}
 
 /// Where `run` ends `Rejected`, the derivation was refused for its cause, whatever the schedule is.
