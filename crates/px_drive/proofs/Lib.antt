@@ -22,4 +22,5 @@ pub mod ConstructorNames
 pub mod ParameterCounts
 pub mod PrintedAnswers
 pub mod Truths
+pub mod RunTruths
 pub mod Completeness

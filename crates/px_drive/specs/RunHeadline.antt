@@ -17,7 +17,7 @@ use Rattle.px_drive.specs.declared.outcome.End.TheVariants.{Done, Spent, WriteFa
 use Rattle.px_drive.specs.Seen.{SinkSeen}
 use Rattle.px_drive.specs.Sources.{IsSource}
 use Rattle.px_drive.specs.Derivations.{IsDerivationOf}
-use Rattle.px_drive.specs.Recordings.{IsWholeRun, IsSpentRun, IsFrontRun}
+use Rattle.px_drive.specs.Recordings.{IsWholeRun, IsSpentRun, IsCutRun}
 
 -- The texts that were read, which are the files' where these are told, are a program, a derivation of it and a schedule of one of its
 -- replica declarations, whose merge is commutative, associative and idempotent; and these bytes were printed, of which a fact is true.
@@ -41,12 +41,12 @@ pub record HasRun (known : List ℕ → Option (List ℕ)) (file derivation sche
   pub is : Is program recorded printed
 
 -- what `run` printed, by its end: where it is done the lines of all shows; after the event that is not within the budget those before it;
--- after a failed write, or without memory, a front of the lines of all shows, or nothing; and nothing after any other end
+-- after a failed write, or without memory, a front of the lines of so many first events, or nothing; and nothing after any other end
 abbrev pub RunPrints : (List ℕ → Option (List ℕ)) → List ℕ → List ℕ → List ℕ → ℕ → SinkSeen → End → Type 0
 RunPrints known file derivation schedule budget out Done = HasRun known file derivation schedule out (λ P S printed. IsWholeRun P S budget printed)
 RunPrints known file derivation schedule budget out (Spent event) = HasRun known file derivation schedule out (λ P S printed. IsSpentRun P S budget event printed)
-RunPrints known file derivation schedule budget out WriteFault = Appends out.old out.new [] ⊎ HasRun known file derivation schedule out IsFrontRun
-RunPrints known file derivation schedule budget out NoMemory = Appends out.old out.new [] ⊎ HasRun known file derivation schedule out IsFrontRun
+RunPrints known file derivation schedule budget out WriteFault = Appends out.old out.new [] ⊎ HasRun known file derivation schedule out IsCutRun
+RunPrints known file derivation schedule budget out NoMemory = Appends out.old out.new [] ⊎ HasRun known file derivation schedule out IsCutRun
 RunPrints known file derivation schedule budget out _ = Appends out.old out.new []
 
 -- what is said of a line of `run` alone

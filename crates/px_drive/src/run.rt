@@ -45,7 +45,7 @@ pub(crate) fn run<F: Files, O: Sink>(
     requires derivation { IsTrue (F.may_open files.old recording.derivation.now) }
     requires schedule { IsTrue (F.may_open files.old recording.schedule.now) }
     ensures runs { Runs (files_seen F.Files files.old files.new) (sink_seen O.Sink out.old out.new)
-        (CommandLine.Run file.now recording.derivation.now recording.schedule.now recording.calls) (end_of result) }
+        (CommandLine.Run file.now recording.entry.derivation.now recording.entry.schedule.now recording.entry.calls) (end_of result) }
     ensures keeps { KeepsFiles F.Files files.old files.new }
     ensures out_later { O.faults out.old ≤ O.faults out.new }
 {
