@@ -14,6 +14,7 @@ pub mod RunCauses
 pub mod TextEnds
 pub mod ReplayEnds
 pub mod RunChances
+pub mod RunFronts
 pub mod ArgumentEnds
 pub mod LineStages
 pub mod CallFacts

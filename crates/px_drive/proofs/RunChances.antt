@@ -169,7 +169,7 @@ long_schedule_is_too_long_law one_source never_both never files out file derivat
     either (inr goes) = by_schedule (past_derivation never files out derivation schedule budget P steps end printed has_steps derived goes)
 
 -- one declaration stands at a number
-one_declaration : (P : Program) (number : ℕ) (R T : ReplicaDef) → slice_get P.replicas number ≡ Some R → slice_get P.replicas number ≡ Some T → R ≡ T
+pub one_declaration : (P : Program) (number : ℕ) (R T : ReplicaDef) → slice_get P.replicas number ≡ Some R → slice_get P.replicas number ≡ Some T → R ≡ T
 one_declaration P number R T one other = let both : Some R ≡ Some T = sym one ∙ other in cc
 
 -- an event is not within the budget and above it

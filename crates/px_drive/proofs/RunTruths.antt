@@ -1,5 +1,5 @@
 -- What `run` printed, by its end: the lines that the definition gives, or a front of them, and lines that agree.
-use Rattle.std.proofs.Common.{◌≡◌, ◌≢◌, ◌∙◌, ℕ, ◌⊎◌, List, [], length, Option, Some, None, slice_get, inl, inr, refl, sym, subst, arith}
+use Rattle.std.proofs.Common.{◌≡◌, ◌≢◌, ◌∙◌, ◌≤◌, ℕ, ◌⊎◌, List, [], length, Option, Some, None, slice_get, inl, inr, refl, sym, subst, arith}
 use Rattle.std.proofs.lemmas.List.{take_all}
 use Rattle.std.specs.Io.KnownBytes.{Appends}
 use Rattle.px_terms.specs.declared.program.Program.{Program}
@@ -119,7 +119,7 @@ of_line joins words files out err (Some (Eval file name values budget)) told end
 of_line joins words files out err (Some (Run file derivation schedule budget)) told end ends (inl (is, _)) =
     subst (RunPrints files.bytes file derivation schedule budget out) (sym is)
     (by_end joins files out file derivation schedule budget ends.1.printed ends.1.wrote told (ran files out file derivation schedule budget told ends.1.printed ends.1.allowed))
-of_line joins words files out err (Some (Run file derivation schedule budget)) told end ends (inr (not_done, is, _)) =
+of_line joins words files out err (Some (Run file derivation schedule budget)) told end ends (inr (not_done, is, _, _)) =
     subst (RunPrints files.bytes file derivation schedule budget out) (sym is)
     (untold joins files out file derivation schedule budget ends.1.printed ends.1.wrote told not_done (ran files out file derivation schedule budget told ends.1.printed ends.1.allowed))
 

@@ -34,12 +34,3 @@ pub record IsCutRun (P : Program) (S : Schedule) (printed : List ℕ) : Type 0 w
   pub are_lines : AreLines P R S.events place lines
   pub count : ℕ
   pub front : printed ≡ take count lines
-
--- These bytes are a front of the lines of all shows of the schedule.
-pub record IsFrontRun (P : Program) (S : Schedule) (printed : List ℕ) : Type 0 where
-  pub R : ReplicaDef
-  pub declared : slice_get P.replicas S.declaration ≡ Some R
-  pub lines : List ℕ
-  pub are_lines : AreLines P R S.events (length S.events) lines
-  pub count : ℕ
-  pub front : printed ≡ take count lines

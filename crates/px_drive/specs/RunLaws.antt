@@ -1,5 +1,5 @@
 -- What the table of causes says of every call of `run`.
-use Rattle.std.specs.Prelude.{◌≡◌, ℕ, ◌<◌, ◌⊎◌, List, [], length, Some, slice_get}
+use Rattle.std.specs.Prelude.{◌≡◌, ℕ, ◌<◌, ◌⊎◌, List, [], length, take, Some, slice_get}
 use Rattle.px_terms.specs.declared.program.ReplicaDef.{ReplicaDef}
 use Rattle.px_terms.specs.declared.program.Program.{Program}
 use Rattle.px_replay.specs.declared.ends.Why.{Why}
@@ -19,7 +19,7 @@ use Rattle.px_drive.specs.Derivations.{IsDerivationOf, IsRejected}
 use Rattle.px_drive.specs.Ends.{limit_of, LineEnds}
 use Rattle.px_drive.specs.Completeness.{HasText}
 use Rattle.px_drive.specs.Laws.{IsRefused}
-use Rattle.px_drive.specs.Recordings.{IsWholeRun, IsSpentRun, IsCutRun, IsFrontRun}
+use Rattle.px_drive.specs.Recordings.{IsWholeRun, IsSpentRun, IsCutRun}
 use Rattle.px_drive.specs.RunHeadline.{Agree}
 
 -- where the program of a text has a derivation, the merge of each of its replica declarations is commutative, associative and idempotent in
@@ -29,8 +29,7 @@ MergesJoin = (text steps : List ℕ) (P : Program) (number : ℕ) (R : ReplicaDe
 
 -- a front of the lines of a schedule's first shows is one of the lines of all its shows
 abbrev pub CutIsFront : Type 0
-CutIsFront = (text lines : List ℕ) (P : Program) (S : Recorded) (R : ReplicaDef) (printed : List ℕ) → IsSource text P → IsSchedule P lines S → slice_get P.replicas S.declaration ≡ Some R → MergeJoins P R → IsCutRun P S printed
-    → IsFrontRun P S printed
+CutIsFront = (P : Program) (S : Recorded) (R : ReplicaDef) (printed whole : List ℕ) → slice_get P.replicas S.declaration ≡ Some R → IsCutRun P S printed → AreLines P R S.events (length S.events) whole → (count : ℕ) × (printed ≡ take count whole)
 
 -- the lines of a schedule's shows agree: two of them with the same numbers have the same text of a state
 abbrev pub LinesAgree : Type 0

@@ -5,7 +5,7 @@ ghost use Rattle.px_drive.specs.RunLaws.{MergesJoin, CutIsFront, LinesAgree, Cut
 use crate::laws::{
     accepted_is_true, never_both, never_rejected, one_rejection, one_source, source_is_checked,
 };
-use px_replicas::{declared_merges_join, lines_go_on, one_need, one_output, schedules_may_happen};
+use px_replicas::{declared_merges_join, one_need, one_output};
 use px_schedule::{never_both as never_schedule_and_fault, one_fault, one_schedule};
 
 /// Where the program of a text has a derivation, the merge of each of its replica declarations is commutative, associative and
@@ -18,13 +18,10 @@ pub fn merges_join()
     declared_merges_join();
 }
 
-/// A front of the lines of a schedule's first shows is one of the lines of all its shows, in the program of a text, where the merge joins.
+/// A front of the lines of a schedule's first shows is one of the lines of all its shows.
 pub fn cut_is_front()
     ensures { CutIsFront }
 {
-    source_is_checked();
-    schedules_may_happen();
-    lines_go_on();
     one_output();
 }
 
