@@ -1,19 +1,13 @@
 -- The laws of how `run` ends: what each end shows.
-use Rattle.std.proofs.Common.{◌≡◌, ◌∙◌, ℕ, ◌⊎◌, List, [], ◌∷◌, ◌++◌, length, map, Option, Some, Err, slice_get, inl, inr, refl, sym, ap, subst}
+use Rattle.std.proofs.Common.{◌≡◌, ◌∙◌, ℕ, ◌⊎◌, List, [], map, Err, slice_get, inl, inr, sym, ap, subst}
 use Rattle.std.proofs.lemmas.List.Folds.{flat_map-map}
 use Rattle.std.proofs.lemmas.Option.{slice_get-map}
-use Rattle.std.specs.List.{flat_map}
-use Rattle.std.specs.Option.{option_map}
 use Rattle.px_base.specs.declared.names.Names.{Names}
-use Rattle.px_terms.specs.declared.program.ReplicaDef.{ReplicaDef}
 use Rattle.px_terms.specs.declared.program.Program.{Program}
 use Rattle.px_machine.specs.ValueText.{value_text}
 use Rattle.px_machine.proofs.RunLemmas.{some_of_map}
-use Rattle.px_replay.specs.declared.ends.Why.{Why}
 use Rattle.px_schedule.specs.declared.schedule.Schedule.{Schedule as Recorded}
-use Rattle.px_schedule.specs.declared.schedule_end.ScheduleKind.{ScheduleKind}
 use Rattle.px_replicas.specs.declared.shown.Shown.{Shown}
-use Rattle.px_replicas.specs.Lines.{show_line}
 use Rattle.px_replicas.specs.Laws.{DeclaredMergesJoin, OneOutput}
 use Rattle.px_drive.specs.declared.outcome.CommandLine.TheVariants.{Run}
 use Rattle.px_world.specs.Known.{IsLonger}
@@ -25,11 +19,11 @@ use Rattle.px_drive.specs.Seen.{FilesSeen, SinkSeen}
 use Rattle.px_drive.specs.Ends.{limit_of, ReadsText, RunsEvents, LineEnds}
 use Rattle.px_drive.specs.Sources.{Sources}
 use Rattle.px_drive.specs.Recordings.{IsWholeRun, IsSpentRun, IsCutRun}
-use Rattle.px_drive.specs.RunHeadline.{ShowLine, text_of, Agree}
+use Rattle.px_drive.specs.RunHeadline.{ShowLine, text_of}
 use Rattle.px_drive.specs.Laws.{NeverRejected, AcceptedIsTrue, SourceIsChecked}
 use Rattle.px_drive.specs.RunLaws.{MergesJoin, LinesAgree, HasTexts, DoneIsRun, SpentIsFirst, CutIsRun, RunIsRefused, ScheduleIsFaulty, TooLongForRunIsLonger}
 use Rattle.px_drive.proofs.Causes.{longer}
-use Rattle.px_drive.proofs.RunEnds.{IsEarly, RanEvents, Parts, parts, RejectedThere, rejected_there, BrokenThere, broken_there}
+use Rattle.px_drive.proofs.RunEnds.{IsEarly, Parts, parts, RejectedThere, rejected_there, BrokenThere, broken_there}
 
 pub merges_join_law : AcceptedIsTrue → SourceIsChecked → DeclaredMergesJoin → MergesJoin
 merges_join_law accepted checked declared text steps P number R source derived at = declared P R number (checked text P source) (accepted text steps P source derived).0 at

@@ -1,10 +1,9 @@
 -- How `run` ends on told texts within their limits: a program, a derivation that is rejected or one of it, a schedule with a fault or a whole
 -- one, and events that are within the budget or not.
-use Rattle.std.proofs.Common.{◌≡◌, ◌∙◌, ℕ, ◌<◌, ◌≤◌, ◌⊎◌, List, length, Some, Ok, Err, slice_get, inl, inr, refl, sym, ap, subst, arith}
+use Rattle.std.proofs.Common.{◌≡◌, ◌∙◌, ℕ, ◌<◌, ◌≤◌, ◌⊎◌, List, Some, Ok, Err, slice_get, inl, inr, refl, sym, ap, subst, arith}
 use Rattle.std.proofs.lemmas.Bool.{cases_order}
 use Rattle.px_terms.specs.declared.program.ReplicaDef.{ReplicaDef}
 use Rattle.px_terms.specs.declared.program.Program.{Program}
-use Rattle.px_replay.specs.declared.ends.Why.{Why}
 use Rattle.px_schedule.specs.declared.schedule.Schedule.{Schedule as Recorded}
 use Rattle.px_schedule.specs.declared.schedule_end.ScheduleKind.{ScheduleKind}
 use Rattle.px_schedule.specs.Schedules.{IsSchedule, IsFault}
@@ -20,7 +19,7 @@ use Rattle.px_drive.specs.declared.outcome.End.TheVariants.{Done, Usage, Source,
 use Rattle.px_drive.specs.Seen.{FilesSeen, SinkSeen}
 use Rattle.px_drive.specs.Sources.{IsSource}
 use Rattle.px_drive.specs.Derivations.{IsDerivationOf, IsRejected}
-use Rattle.px_drive.specs.Recordings.{IsWholeRun, IsSpentRun}
+use Rattle.px_drive.specs.Recordings.{IsSpentRun}
 use Rattle.px_drive.specs.Ends.{limit_of, ReadsText, Accepts, Schedules, RunsEvents, AndThen}
 use Rattle.px_drive.specs.Completeness.{HasText, NoneIsAbove, IsDone}
 use Rattle.px_drive.specs.Laws.{OneSource, NeverBoth, NeverRejected, OneRejection, SourceIsChecked}
@@ -209,7 +208,7 @@ spent_ends need P S budget event before out (Arguments kind number) printed spen
 pub first_is_spent_law : RunsAreCertain → OneNeed → FirstIsSpent
 first_is_spent_law laws need files out file derivation schedule budget event printed before text steps lines P S end has source has_steps derived has_lines whole spent ends =
     either (reaches laws files out file derivation schedule budget text steps lines P S end printed has_steps has_lines source derived whole
-      (program_read laws.one_source laws.never_both files out (Run file derivation schedule budget) printed text P end has source ends))
+    (program_read laws.one_source laws.never_both files out (Run file derivation schedule budget) printed text P end has source ends))
   where
     either : IsChance end ⊎ RunsEvents P S budget out end printed → (end ≡ Spent event) ⊎ ((end ≡ ReadFault) ⊎ ((end ≡ WriteFault) ⊎ (end ≡ NoMemory)))
     either (inl (inl is)) = inr (inl is)

@@ -1,5 +1,5 @@
 -- What `run` does after its program was read: how it ends, and what each end shows.
-use Rattle.std.proofs.Common.{◌≡◌, ◌∙◌, ℕ, ◌<◌, ◌≤◌, ◌⊎◌, List, [], Option, Result, Ok, Err, inl, inr, refl, sym, arith}
+use Rattle.std.proofs.Common.{◌≡◌, ◌∙◌, ℕ, ◌<◌, ◌⊎◌, List, [], Err, inl, inr, sym, arith}
 use Rattle.px_terms.specs.declared.program.Program.{Program}
 use Rattle.px_replay.specs.declared.ends.Why.{Why}
 use Rattle.px_schedule.specs.declared.schedule.Schedule.{Schedule as Recorded}

@@ -1,16 +1,14 @@
 -- The lines of a schedule's first shows stand at the front of the lines of all its shows.
-use Rattle.std.proofs.Common.{◌≡◌, ◌∙◌, ℕ, ◌<◌, ◌≤◌, ◌+◌, ◌⊎◌, List, [], ◌++◌, length, take, Some, slice_get, inl, inr, refl, sym, ap, subst, arith, append_assoc, append-nil}
+use Rattle.std.proofs.Common.{◌≡◌, ◌∙◌, ℕ, ◌<◌, ◌≤◌, ◌⊎◌, List, [], ◌++◌, length, take, inl, inr, refl, sym, ap, subst, arith, append_assoc, append-nil}
 use Rattle.std.proofs.lemmas.Bool.{cases_order}
 use Rattle.std.proofs.lemmas.List.{take_all, take-append-le}
 use Rattle.std.proofs.lemmas.Grind.{flat_map-append}
 use Rattle.px_terms.specs.declared.program.ReplicaDef.{ReplicaDef}
 use Rattle.px_terms.specs.declared.program.Program.{Program}
 use Rattle.px_schedule.specs.declared.schedule.Event.{Event}
-use Rattle.px_schedule.specs.declared.schedule.Schedule.{Schedule as Recorded}
 use Rattle.px_replicas.specs.declared.shown.Shown.{Shown}
 use Rattle.px_replicas.specs.Lines.{show_line, show_lines, shown_list, AreShown, none, more, AreLines}
 use Rattle.px_replicas.specs.Laws.{OneOutput}
-use Rattle.px_drive.specs.Recordings.{IsCutRun}
 use Rattle.px_drive.specs.RunLaws.{CutIsFront}
 use Rattle.px_drive.proofs.RunChances.{one_declaration}
 
@@ -67,8 +65,8 @@ cut_is_front_law one P S R printed whole declared cut lines =
     let same : cut.R ≡ R = one_declaration P S.declaration cut.R R cut.declared declared in
     let front : Front P R S.events cut.place lines.all = front_of P R S.events cut.place (length S.events) lines.all cut.stands lines.shown in
     let first : cut.lines ≡ show_lines P.names front.first =
-        one.lines P R S.events cut.place cut.lines (show_lines P.names front.first) (subst (λ (T : ReplicaDef). AreLines P T S.events cut.place cut.lines) same cut.are_lines) (record { all = front.first; shown = front.shown; whole = refl }) in
+    one.lines P R S.events cut.place cut.lines (show_lines P.names front.first) (subst (λ (T : ReplicaDef). AreLines P T S.events cut.place cut.lines) same cut.are_lines) (record { all = front.first; shown = front.shown; whole = refl }) in
     let all : whole ≡ cut.lines ++ show_lines P.names front.rest =
-        lines.whole ∙ (ap (show_lines P.names) front.whole ∙ (flat_map-append (show_line P.names) front.first front.rest ∙ ap (λ (xs : List ℕ). xs ++ show_lines P.names front.rest) (sym first))) in
+    lines.whole ∙ (ap (show_lines P.names) front.whole ∙ (flat_map-append (show_line P.names) front.first front.rest ∙ ap (λ (xs : List ℕ). xs ++ show_lines P.names front.rest) (sym first))) in
     let found = front_of_more cut.count cut.lines (show_lines P.names front.rest) in
     (found.0, cut.front ∙ (found.1 ∙ ap (take found.0) (sym all)))

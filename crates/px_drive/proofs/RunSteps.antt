@@ -1,11 +1,10 @@
 -- The run of a schedule event by event: what stands after so many events, and what is said where one ends the run.
-use Rattle.std.proofs.Common.{◌≡◌, ◌<◌, ◌≤◌, ◌+◌, ℕ, ◌⊎◌, List, [], ◌++◌, length, take, Option, Some, Result, Ok, Err, IsErrAnd, slice_get, inl, inr, refl, sym, ap, subst, ◌∙◌, arith, append-nil}
+use Rattle.std.proofs.Common.{◌≡◌, ◌<◌, ◌≤◌, ◌+◌, ℕ, ◌⊎◌, List, [], ◌++◌, length, take, Option, Some, Result, Ok, Err, IsErrAnd, slice_get, inl, inr, refl, sym, subst, ◌∙◌, arith, append-nil}
 use Rattle.std.proofs.lemmas.Bool.{cases_order}
 use Rattle.std.proofs.lemmas.List.{take_all}
 use Rattle.std.proofs.Math.Seq.{take-append-add}
-use Rattle.std.proofs.KnownBytes.{Appends-nil, Appends-trans}
+use Rattle.std.proofs.KnownBytes.{Appends-trans}
 use Rattle.std.specs.Io.KnownBytes.{Appends}
-use Rattle.px_base.specs.declared.limits.TheConstants.{EVENTS}
 use Rattle.px_terms.specs.declared.program.ReplicaDef.{ReplicaDef}
 use Rattle.px_terms.specs.declared.program.Program.{Program}
 use Rattle.px_machine.specs.declared.run_end.RunEnd.{RunEnd}
@@ -13,16 +12,14 @@ use Rattle.px_machine.specs.declared.run_end.RunEnd.TheVariants as refusals
 use Rattle.px_schedule.specs.declared.schedule.Event.{Event}
 use Rattle.px_schedule.specs.declared.schedule.Schedule.{Schedule as Recorded}
 use Rattle.px_replicas.specs.declared.shown.Shown.{Shown}
-use Rattle.px_replicas.specs.Events.{HasState, IsWithin, AreWithin, IsAbove}
-use Rattle.px_replicas.specs.Lines.{show_lines, shown_list, AreLines, none}
+use Rattle.px_replicas.specs.Events.{HasState, IsWithin, AreWithin}
+use Rattle.px_replicas.specs.Lines.{AreLines, none}
 use Rattle.px_replicas.specs.Worlds.{Standing, Runs, Fits, StandsFor, GoesOn}
 use Rattle.px_replicas.specs.Laws.{IsOfSchedule, NextFits, LinesGoOn}
-use Rattle.px_world.specs.Faults.{Rose}
-use Rattle.px_world.specs.Known.{AppendsPrefix}
 use Rattle.px_drive.specs.declared.outcome.End.{End}
 use Rattle.px_drive.specs.declared.outcome.End.TheVariants.{Done, Usage, Source, Rejected, Schedule, Spent, ReadFault, WriteFault, NoMemory, TooLong, Arguments}
 use Rattle.px_drive.specs.Seen.{SinkSeen}
-use Rattle.px_drive.specs.Recordings.{IsWholeRun, IsSpentRun, IsCutRun}
+use Rattle.px_drive.specs.Recordings.{IsCutRun}
 use Rattle.px_drive.specs.Printing.{HasPrinted, PrintsShown, line_shown, end_of_event}
 use Rattle.px_drive.specs.Ends.{RunsEvents, end_of}
 
@@ -128,16 +125,19 @@ module _ (go_on : LinesGoOn) (P : Program) (S : Recorded) (budget place : ℕ) (
   -- where the event is refused, the budget is spent or no memory is left
   pub refused_here : (new : Standing) (refusal : RunEnd) (end : End) → place < length S.events → GoesOn P R S.count S.events place budget new (Err refusal) → end ≡ end_of_event place refusal
       → HasPrinted (RunsEvents P S budget) (record { old = old; new = now; before = before; after = seen }) end
-  refused_here new refusals.Spent end there above is = subst (HasPrinted (RunsEvents P S budget) (record { old = old; new = now; before = before; after = seen })) (sym is)
-      (going.text, record {
-        R = R;
-        declared = going.is.declared;
-        place = place;
-        counted = refl;
-        stands = there;
-        first = record { before = going.within; above = above };
-        lines = going.lines;
-      }, going.wrote)
+  refused_here new refusals.Spent end there above is = subst (HasPrinted (RunsEvents P S budget) (record { old = old; new = now; before = before; after = seen })) (sym is) (
+    going.text,
+    record {
+      R = R;
+      declared = going.is.declared;
+      place = place;
+      counted = refl;
+      stands = there;
+      first = record { before = going.within; above = above };
+      lines = going.lines;
+    },
+    going.wrote,
+  )
   refused_here new refusals.NoMemory end there above is = subst (HasPrinted (RunsEvents P S budget) (record { old = old; new = now; before = before; after = seen })) (sym is)
       (going.text, cut_here (omega (arith, there)), going.wrote)
 
@@ -146,16 +146,19 @@ module _ (go_on : LinesGoOn) (P : Program) (S : Recorded) (budget place : ℕ) (
       → PrintsShown (line_shown P.names answer) (record { old = now; new = later; before = seen; after = count }) (Err end) → HasPrinted (RunsEvents P S budget) (record { old = old; new = later; before = before; after = count }) end
   unprinted new answer later count WriteFault there (stands, this, is) ((n, fits, front), rose) = (
     going.text ++ take n (line_shown P.names answer),
-    (let first : before ≤ seen = going.later in omega (arith, first, rose), record {
-      R = R;
-      declared = going.is.declared;
-      place = place + 1;
-      stands = let next : place + 1 ≤ length S.events = omega (arith, there) in next;
-      lines = going.text ++ line_shown P.names answer;
-      are_lines = go_on P R S.events place going.text answer going.lines is;
-      count = length going.text + n;
-      front = sym (take-append-add going.text (line_shown P.names answer) n);
-    }),
+    (
+      let first : before ≤ seen = going.later in omega (arith, first, rose),
+      record {
+        R = R;
+        declared = going.is.declared;
+        place = place + 1;
+        stands = let next : place + 1 ≤ length S.events = omega (arith, there) in next;
+        lines = going.text ++ line_shown P.names answer;
+        are_lines = go_on P R S.events place going.text answer going.lines is;
+        count = length going.text + n;
+        front = sym (take-append-add going.text (line_shown P.names answer) n);
+      },
+    ),
     Appends-trans old now later going.text (take n (line_shown P.names answer)) going.wrote front,
   )
   unprinted new answer later count NoMemory there goes nothing =
@@ -179,9 +182,13 @@ module _ (go_on : LinesGoOn) (P : Program) (S : Recorded) (budget place : ℕ) (
 
   -- behind the last event the run is whole
   pub whole_here : place ≡ length S.events → HasPrinted (RunsEvents P S budget) (record { old = old; new = now; before = before; after = seen }) Done
-  whole_here is = (going.text, record {
-    R = R;
-    declared = going.is.declared;
-    within = subst (AreWithin P R S.events budget) is going.within;
-    lines = subst (λ (n : ℕ). AreLines P R S.events n going.text) is going.lines;
-  }, going.wrote)
+  whole_here is = (
+    going.text,
+    record {
+      R = R;
+      declared = going.is.declared;
+      within = subst (AreWithin P R S.events budget) is going.within;
+      lines = subst (λ (n : ℕ). AreLines P R S.events n going.text) is going.lines;
+    },
+    going.wrote,
+  )

@@ -1,5 +1,5 @@
 -- What `run` printed, by its end: the lines that the definition gives, or a front of them, and lines that agree.
-use Rattle.std.proofs.Common.{◌≡◌, ◌≢◌, ◌∙◌, ◌≤◌, ℕ, ◌⊎◌, List, [], length, Option, Some, None, slice_get, inl, inr, refl, sym, subst, arith}
+use Rattle.std.proofs.Common.{◌≡◌, ◌≢◌, ◌≤◌, ℕ, ◌⊎◌, List, [], length, Option, Some, None, inl, inr, refl, sym, subst, arith}
 use Rattle.std.proofs.lemmas.List.{take_all}
 use Rattle.std.specs.Io.KnownBytes.{Appends}
 use Rattle.px_terms.specs.declared.program.Program.{Program}
@@ -10,11 +10,10 @@ use Rattle.px_drive.specs.declared.outcome.End.{End}
 use Rattle.px_drive.specs.declared.outcome.End.TheVariants.{Done, Usage, Source, Rejected, Schedule, Spent, ReadFault, WriteFault, NoMemory, TooLong, Arguments}
 use Rattle.px_drive.specs.declared.outcome.Outcome.{Outcome}
 use Rattle.px_drive.specs.Seen.{FilesSeen, SinkSeen}
-use Rattle.px_drive.specs.Ends.{RunsEvents, Runs}
 use Rattle.px_drive.specs.Answers.{Ends, Tells, IsAnswer}
 use Rattle.px_drive.specs.Recordings.{IsWholeRun, IsSpentRun, IsCutRun}
-use Rattle.px_drive.specs.RunHeadline.{HasRun, RunPrints, OfRun, PrintsJoins, WritesAgreeing, PrintsAgreeing}
-use Rattle.px_drive.specs.RunLaws.{MergesJoin, LinesAgree, HasTexts}
+use Rattle.px_drive.specs.RunHeadline.{HasRun, RunPrints, PrintsJoins, PrintsAgreeing}
+use Rattle.px_drive.specs.RunLaws.{MergesJoin, LinesAgree}
 use Rattle.px_drive.proofs.RunCauses.{ComesBefore, Ran, ran}
 
 -- the lines before an event that is spent are a front of themselves

@@ -16,7 +16,7 @@ use Rattle.px_drive.specs.declared.outcome.CommandLine.TheVariants.{Check, Repla
 use Rattle.px_drive.specs.declared.outcome.Which.{Which}
 use Rattle.px_drive.specs.declared.outcome.Which.TheVariants as which
 use Rattle.px_drive.specs.declared.outcome.End.{End}
-use Rattle.px_drive.specs.declared.outcome.End.TheVariants.{Done, Source, Rejected, Schedule, Spent, ReadFault, WriteFault, NoMemory, TooLong, Arguments}
+use Rattle.px_drive.specs.declared.outcome.End.TheVariants.{Done, Rejected, Schedule, Spent, ReadFault, WriteFault, NoMemory, TooLong, Arguments}
 use Rattle.px_drive.specs.declared.outcome.ArgumentKind.TheVariants.{BadValue}
 use Rattle.px_drive.specs.declared.arguments.ClosedCall.{ClosedCall}
 use Rattle.px_drive.specs.Messages.{checked_line, accepted_line, evaluated_by}

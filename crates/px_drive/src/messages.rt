@@ -325,12 +325,7 @@ pub(crate) fn print_evaluated<O: Sink>(
     let mut digits = Buffer::new();
     write_pieces(
         out,
-        &[
-            value,
-            b"\ncalls ",
-            digits.format(calls).as_bytes(),
-            b"\n",
-        ],
+        &[value, b"\ncalls ", digits.format(calls).as_bytes(), b"\n"],
     )
 }
 

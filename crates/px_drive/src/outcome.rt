@@ -10,9 +10,14 @@ use sqlite_items::Items;
 #[derive(Drop)]
 pub enum CommandLine {
     /// `check F`: reads the program in the file F.
-    Check { file: Text },
+    Check {
+        file: Text,
+    },
     /// `replay F D`: replays the derivation in the file D of the program in the file F.
-    Replay { file: Text, derivation: Text },
+    Replay {
+        file: Text,
+        derivation: Text,
+    },
     /// `eval F NAME V.. [--calls N]`: evaluates the call of the definition NAME of the program in the file F on the values V, within
     /// N calls.
     Eval {
