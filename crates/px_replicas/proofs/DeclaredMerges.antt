@@ -43,7 +43,8 @@ use Rattle.px_totality.proofs.Examples.{only_one}
 use Rattle.px_totality.proofs.Extensions.{extensions_compose}
 use Rattle.px_totality.proofs.Unique.{OfCall, OfMore, rests_on, all_rest_on}
 use Rattle.px_replicas.specs.Joins.{Merges, IsMerged, Commute, Associate, MergeJoins}
-use Rattle.px_replicas.proofs.MergeFunctions.{MergeIs, merge_is, functions_fit}
+use Rattle.px_replicas.proofs.MergeTyping.{IsDefined, merge_defined}
+use Rattle.px_replicas.proofs.MergeFunctions.{functions_have}
 
 -- what a property that is known comes from: each of the three of a join is said, or selectivity is said, which gives idempotence
 abbrev ComesFrom : (Prop → Type 0) → Prop → Type 0
@@ -167,29 +168,29 @@ variable_is P types funs rho i v w c at means =
     rests_on P types funs rho [] (Term-F.Free i) v c (subst (λ (y : Term-F Term). MeansOf P types funs rho [] y v c) (term.outs-Free i) means) in
     one_item v w (sym there.0 ∙ at)
 
-module _ (P : Program) (founded : IsWellFounded P) (R : ReplicaDef) (it : MergeIs P R)
-    (fit : FunctionsFit P it.function.types it.function.D.funs R.funs) where
+module _ (P : Program) (founded : IsWellFounded P) (R : ReplicaDef) (takes : List FnType) (it : IsDefined P R.merge takes R.state)
+    (fit : FunctionsFit P R.merge.types it.D.funs R.funs) where
   abbrev T : List Ty
-  T = it.function.types
+  T = R.merge.types
 
   abbrev D : definition.Def
-  D = it.function.D
+  D = it.D
 
   abbrev own : Fun
-  own = record { head = Def it.function.n; types = own_types D.tparams }
+  own = record { head = Def it.n; types = own_types D.tparams }
 
   abbrev given : List Fun
   given = own_functions (length D.funs)
 
   own_put_in : tys_instance T (own_types D.tparams) ≡ T
-  own_put_in = subst (λ (k : ℕ). tys_instance T (own_types k) ≡ T) it.function.count (own_types_are T)
+  own_put_in = subst (λ (k : ℕ). tys_instance T (own_types k) ≡ T) it.many (own_types_are T)
 
   -- the definition over its own types stands for the merge
   function_stands : FunMeans T R.funs own R.merge
   function_stands =
-      let here : Some (record { head = Def it.function.n; types = tys_instance T (own_types D.tparams) }) ≡ Some (record { head = Def it.function.n; types = T }) =
-      λ i. Some (record { head = Def it.function.n; types = own_put_in i }) in
-      here ∙ ap (λ (f : Fun). Some f) (sym it.function.is)
+      let here : Some (record { head = Def it.n; types = tys_instance T (own_types D.tparams) }) ≡ Some (record { head = Def it.n; types = T }) =
+      λ i. Some (record { head = Def it.n; types = own_put_in i }) in
+      here ∙ (λ i. Some (record { head = (sym it.head) i; types = T }))
 
   -- and its own functions for those of the declaration
   given_stand : FunsMean T R.funs given R.funs
@@ -207,16 +208,16 @@ module _ (P : Program) (founded : IsWellFounded P) (R : ReplicaDef) (it : MergeI
   params_at : tys_instance T (tys_instance (own_types D.tparams) D.params) ≡ tys_instance T D.params
   params_at =
       let long : D.tparams ≡ length (own_types D.tparams) = sym (many_numbers (λ (i : ℕ). type.Var i) 0 D.tparams) in
-      let signature : HasSignature P D = (founded.typed.defs it.function.n D it.function.found).signature in
+      let signature : HasSignature P D = (founded.typed.defs it.n D it.found).signature in
       let over : AreTypes P (length (own_types D.tparams)) D.params =
       subst (λ (k : ℕ). AreTypes P k D.params) long (written_types P D.tparams D.params signature.params) in
       instances_twice P T (own_types D.tparams) over ∙ ap (λ (types : List Ty). tys_instance types D.params) own_put_in
 
   is_alone : (s : Subject) → IsSubject P (functions_alone D.tparams D.funs) own given s → IsAlone s
   is_alone s subject =
-      let taken : subject.params ≡ tys_instance (own_types D.tparams) D.params = taken_by P subject.function D it.function.found in
+      let taken : subject.params ≡ tys_instance (own_types D.tparams) D.params = taken_by P subject.function D it.found in
       let shape : tys_instance T s.leading ++ ty_instance T s.last ∷ ty_instance T s.last ∷ [] ≡ R.state ∷ R.state ∷ [] =
-      sym (map-append (ty_instance T) s.leading (s.last ∷ s.last ∷ [])) ∙ ap (tys_instance T) (sym subject.shape ∙ taken) ∙ params_at ∙ sym it.function.params_are in
+      sym (map-append (ty_instance T) s.leading (s.last ∷ s.last ∷ [])) ∙ ap (tys_instance T) (sym subject.shape ∙ taken) ∙ params_at ∙ sym it.params in
       let ends : (tys_instance T s.leading ≡ []) × (ty_instance T s.last ≡ R.state) = same_ends (tys_instance T s.leading) [] (ty_instance T s.last) R.state shape in
       let leading : s.leading ≡ [] = nothing_mapped (ty_instance T) s.leading ends.0 in
       let function : s.function ≡ own = subject.is_function in
@@ -361,19 +362,19 @@ module _ (P : Program) (founded : IsWellFounded P) (R : ReplicaDef) (it : MergeI
     is_true : IsTrueOfAll P T R.funs (clause_for (alone last result) p D.tparams D.funs)
 
   -- where each earlier obligation holds, the clause of what is declared before is true
-  declared_is_true : EarlierHold P (behind R.seen) → (p : Prop) → IsDeclaredBefore P (behind R.seen) it.function.n p → HasClause p
+  declared_is_true : EarlierHold P (behind R.seen) → (p : Prop) → IsDeclaredBefore P (behind R.seen) it.n p → HasClause p
   declared_is_true earlier p d =
-      let fits : Fits P [] (Def it.function.n) p = (founded.typed.properties d.number it.function.n p d.stands).fits in
-      let obligation : IsObligation P d.number fits.clause = record { declared = declared.Property it.function.n p; number = d.stands; says = of_property fits.says } in
+      let fits : Fits P [] (Def it.n) p = (founded.typed.properties d.number it.n p d.stands).fits in
+      let obligation : IsObligation P d.number fits.clause = record { declared = declared.Property it.n p; number = d.stands; says = of_property fits.says } in
       let holds : HoldsInProgram P fits.clause = earlier.each d.number fits.clause d.earlier obligation in
-      let of : OfProperty P it.function.n p fits.clause = clause_rests_on P fits.says in
-      let same : of.D ≡ D = one_item of.D D (sym of.found ∙ it.function.found) in
+      let of : OfProperty P it.n p fits.clause = clause_rests_on P fits.says in
+      let same : of.D ≡ D = one_item of.D D (sym of.found ∙ it.found) in
       let subject : IsSubject P (functions_alone D.tparams D.funs) own given of.s =
-      subst (λ (E : definition.Def). IsSubject P (functions_alone E.tparams E.funs) (record { head = Def it.function.n; types = own_types E.tparams })
+      subst (λ (E : definition.Def). IsSubject P (functions_alone E.tparams E.funs) (record { head = Def it.n; types = own_types E.tparams })
       (own_functions (length E.funs)) of.s) same of.subject in
       let is : fits.clause ≡ clause_for of.s p D.tparams D.funs = of.is ∙ ap (λ (E : definition.Def). clause_for of.s p E.tparams E.funs) same in
       let there : HoldsInProgram P (clause_for of.s p D.tparams D.funs) = subst (HoldsInProgram P) is holds in
-      let all : IsTrueOfAll P T R.funs (clause_for of.s p D.tparams D.funs) = there.at T it.function.count it.function.ground R.funs fit in
+      let all : IsTrueOfAll P T R.funs (clause_for of.s p D.tparams D.funs) = there.at T it.many it.ground R.funs fit in
       let by : IsAlone of.s = is_alone of.s subject in
       record {
         last = of.s.last;
@@ -384,29 +385,30 @@ module _ (P : Program) (founded : IsWellFounded P) (R : ReplicaDef) (it : MergeI
 
   -- what is known of the merge
   abbrev Known : Prop → Type 0
-  Known p = Closure (IsDeclaredBefore P (behind R.seen) it.function.n) p
+  Known p = Closure (IsDeclaredBefore P (behind R.seen) it.n) p
 
   joins : EarlierHold P (behind R.seen) → Known Comm → Known Assoc → Known Idem → MergeJoins P R
   joins earlier comm assoc idem =
-      let c : HasClause Comm = declared_is_true earlier Comm (comes_from (IsDeclaredBefore P (behind R.seen) it.function.n) Comm comm) in
-      let a : HasClause Assoc = declared_is_true earlier Assoc (comes_from (IsDeclaredBefore P (behind R.seen) it.function.n) Assoc assoc) in
+      let c : HasClause Comm = declared_is_true earlier Comm (comes_from (IsDeclaredBefore P (behind R.seen) it.n) Comm comm) in
+      let a : HasClause Assoc = declared_is_true earlier Assoc (comes_from (IsDeclaredBefore P (behind R.seen) it.n) Assoc assoc) in
       record {
         comm = comm_means c.last c.result c.state c.is_true;
         assoc = assoc_means a.last a.result a.state a.is_true;
-        idem = ⊎_elim by_idem by_sel (comes_from (IsDeclaredBefore P (behind R.seen) it.function.n) Idem idem);
+        idem = ⊎_elim by_idem by_sel (comes_from (IsDeclaredBefore P (behind R.seen) it.n) Idem idem);
       }
     where
-      by_idem : IsDeclaredBefore P (behind R.seen) it.function.n Idem → (v : Value) → IsIn P R.state v → IsMerged P R v v v
+      by_idem : IsDeclaredBefore P (behind R.seen) it.n Idem → (v : Value) → IsIn P R.state v → IsMerged P R v v v
       by_idem d = let h : HasClause Idem = declared_is_true earlier Idem d in idem_means h.last h.result h.state h.is_true
 
-      by_sel : IsDeclaredBefore P (behind R.seen) it.function.n Sel → (v : Value) → IsIn P R.state v → IsMerged P R v v v
+      by_sel : IsDeclaredBefore P (behind R.seen) it.n Sel → (v : Value) → IsIn P R.state v → IsMerged P R v v v
       by_sel d = let h : HasClause Sel = declared_is_true earlier Sel d in sel_means h.last h.result h.state h.is_true
 
 -- in a well-founded program in which all obligations hold, the merge of a typed declaration joins
 pub typed_merge_joins : (P : Program) (R : ReplicaDef) → IsWellFounded P → IsTypedReplica P R → AllHoldInExtensions P → MergeJoins P R
 typed_merge_joins P R founded typed hold =
-    let it : MergeIs P R = merge_is P R typed in
+    let it : IsDefined P R.merge typed.join.takes R.state = merge_defined P R typed in
     let earlier : EarlierHold P (behind R.seen) = record { each = λ i clause before is. (hold.each i clause is).in_each P (extensions_compose.itself P founded) } in
-    let known : (p : Prop) → IsKnown P (behind R.seen) (functions_alone 0 []) R.merge.head p → Closure (IsDeclaredBefore P (behind R.seen) it.function.n) p =
-    λ p k. subst (λ (f : Fun). IsKnown P (behind R.seen) (functions_alone 0 []) f.head p) it.function.is k in
-    joins P founded R it (functions_fit P R it founded earlier) earlier (known Comm typed.join.comm) (known Assoc typed.join.assoc) (known Idem typed.join.idem)
+    let known : (p : Prop) → IsKnown P (behind R.seen) (functions_alone 0 []) R.merge.head p → Closure (IsDeclaredBefore P (behind R.seen) it.n) p =
+    λ p k. subst (λ (h : Head). IsKnown P (behind R.seen) (functions_alone 0 []) h p) it.head k in
+    joins P founded R typed.join.takes it (functions_have P R founded typed earlier) earlier (known Comm typed.join.comm) (known Assoc typed.join.assoc)
+    (known Idem typed.join.idem)

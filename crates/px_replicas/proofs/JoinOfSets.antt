@@ -10,6 +10,7 @@ use Rattle.px_terms.specs.TypedPrograms.{IsTypedReplica}
 use Rattle.px_terms.specs.Extending.{IsWellFounded}
 use Rattle.px_totality.specs.Laws.{ExactlyOne}
 use Rattle.px_totality.proofs.Unique.{unique}
+use Rattle.px_totality.proofs.EachHasValue.{each_call}
 use Rattle.px_schedule.specs.declared.schedule.Event.{Event}
 use Rattle.px_schedule.specs.declared.schedule.Event.TheVariants.{Update}
 use Rattle.px_replicas.specs.Joins.{IsMerged, IsContributed, Gathers, done, more, IsJoin, Commute, Associate, MergeJoins}
@@ -19,22 +20,22 @@ use Rattle.px_replicas.proofs.Semilattices.{Merged}
 use Rattle.px_replicas.proofs.Semilattices as semilattice
 use Rattle.px_replicas.proofs.RisingLists.{In, in_contains, contains_in}
 use Rattle.px_replicas.proofs.Outputs.{one_contributed, one_merge}
-use Rattle.px_replicas.proofs.MergeFunctions.{merge_is, merged}
+use Rattle.px_replicas.proofs.MergeTyping.{merge_gives}
 use Rattle.px_replicas.proofs.DeclaredReplicas.{founded_of, typed_of, first_is_state}
 
 module _ (P : Program) (R : ReplicaDef) (founded : IsWellFounded P) (typed : IsTypedReplica P R) (joins : MergeJoins P R) where
-  abbrev D : Value → Type 0
+  abbrev pub D : Value → Type 0
   D v = IsIn P R.state v
 
-  abbrev M : Value → Value → Value → Type 0
+  abbrev pub M : Value → Value → Value → Type 0
   M a b v = IsMerged P R a b v
 
   pub total : (a b : Value) → D a → D b → Merged D M a b
   total a b da db =
-      let it : ExactlyOne P R.state (Gives P R.merge R.funs (a ∷ b ∷ [])) = merged P R (merge_is P R typed) founded a b da db in
+      let it : ExactlyOne P R.state (Gives P R.merge R.funs (a ∷ b ∷ [])) = merge_gives P R (each_call P founded) typed a b da db in
       record { value = it.value; there = it.in_type; is = record { calls = it.count; merges = it.given } }
 
-  one : (a b v w : Value) → M a b v → M a b w → v ≡ w
+  pub one : (a b v w : Value) → M a b v → M a b w → v ≡ w
   one a b v w m n = (one_merge P R a b v w m.calls n.calls m.merges n.merges).0
 
   comm : (a b v : Value) → D a → D b → M a b v → M b a v
@@ -42,7 +43,7 @@ module _ (P : Program) (R : ReplicaDef) (founded : IsWellFounded P) (typed : IsT
       let it : Commute P R a b = joins.comm a b da db in
       subst (M b a) (one a b it.both v it.one_way m) it.other_way
 
-  assoc : (a b c x y v : Value) → D a → D b → D c → M a b x → M b c y → M x c v → M a y v
+  pub assoc : (a b c x y v : Value) → D a → D b → D c → M a b x → M b c y → M x c v → M a y v
   assoc a b c x y v da db dc front behind all =
       let it : Associate P R a b c = joins.assoc a b c da db dc in
       let from_front : M x c it.all = subst (λ (x : Value). M x c it.all) (one a b it.front x it.is_front front) it.from_front in
@@ -58,34 +59,34 @@ module _ (P : Program) (R : ReplicaDef) (founded : IsWellFounded P) (typed : IsT
   pub takes_first : (a b v : Value) → D a → D b → M a b v → M v a v
   takes_first a b v da db m = semilattice.takes_first D M total one comm assoc idem a b v da db m
 
-  pub takes_second : (a b v : Value) → D a → D b → M a b v → M v b v
+  takes_second : (a b v : Value) → D a → D b → M a b v → M v b v
   takes_second a b v da db m = semilattice.takes_second D M total one comm assoc idem a b v da db m
 
   pub takes_through : (u a b : Value) → D u → D a → D b → M u a u → M a b a → M u b u
   takes_through u a b du da db ua ab = semilattice.takes_through D M total one comm assoc idem u a b du da db ua ab
 
-  pub takes_both : (u a b v : Value) → D u → D a → D b → M u a u → M u b u → M a b v → M u v u
+  takes_both : (u a b v : Value) → D u → D a → D b → M u a u → M u b u → M a b v → M u v u
   takes_both u a b v du da db ua ub m = semilattice.takes_both D M total one comm assoc idem u a b v du da db ua ub m
 
-  pub take_each_other : (u v : Value) → D u → D v → M u v u → M v u v → u ≡ v
+  take_each_other : (u v : Value) → D u → D v → M u v u → M v u v → u ≡ v
   take_each_other u v du dv uv vu = semilattice.take_each_other D M total one comm assoc idem u v du dv uv vu
 
   module _ (events : List Event) (of_type : (i : ℕ) (e : Event) → slice_get events i ≡ Some e → HasState P R e) where
-    pub contributed : (n : ℕ) (b : Value) → IsContributed events n b → D b
+    contributed : (n : ℕ) (b : Value) → IsContributed events n b → D b
     contributed n b is = of_type is.place (Update is.replica b) is.update.stands
 
     -- The value takes in each of these updates.
-    pub record Takes (u : Value) (numbers : List ℕ) : Type 0 where
-      pub each : (n : ℕ) (b : Value) → In numbers n → IsContributed events n b → M u b u
+    record Takes (u : Value) (numbers : List ℕ) : Type 0 where
+      each : (n : ℕ) (b : Value) → In numbers n → IsContributed events n b → M u b u
 
     -- The value is of the state's type, and takes in the first value and each of these updates.
-    pub record IsAbove (a : Value) (numbers : List ℕ) (v : Value) : Type 0 where
-      pub there : D v
-      pub first : M v a v
-      pub updates : Takes v numbers
+    record IsAbove (a : Value) (numbers : List ℕ) (v : Value) : Type 0 where
+      there : D v
+      first : M v a v
+      updates : Takes v numbers
 
     -- what updates are merged to takes them in
-    pub is_above : (a v : Value) (numbers : List ℕ) → Gathers P R events a numbers v → D a → IsAbove a numbers v
+    is_above : (a v : Value) (numbers : List ℕ) → Gathers P R events a numbers v → D a → IsAbove a numbers v
     is_above a v _ (done e) da =
         let itself : IsAbove a [] a = record { there = da; first = idem a da; updates = record { each = λ n b none is. absurd none } } in
         subst (IsAbove a []) (sym e) itself
@@ -104,7 +105,7 @@ module _ (P : Program) (R : ReplicaDef) (founded : IsWellFounded P) (typed : IsT
         by others of_next k c (inr within) contributes = others.each k c within contributes
 
     -- and each value that takes them in takes it in
-    pub is_least : (a v u : Value) (numbers : List ℕ) → Gathers P R events a numbers v → D a → D u → M u a u → Takes u numbers → M u v u
+    is_least : (a v u : Value) (numbers : List ℕ) → Gathers P R events a numbers v → D a → D u → M u a u → Takes u numbers → M u v u
     is_least a v u _ (done e) da du ua takes = subst (λ (v : Value). M u v u) (sym e) ua
     is_least a w u _ (more {b = b} {v = x} {n = n} {numbers = numbers} is m g) da du ua takes =
         let db : D b = contributed n b is in

@@ -1,4 +1,4 @@
--- A schedule has one output, and an event asks for one number of calls.
+-- A schedule has one output: one list of what is shown, and one text; what is shown with the same numbers has one value.
 use Rattle.std.proofs.Common.{◌≡◌, ◌⊎◌, inl, inr, ℕ, zero, suc, List, [], ◌∷◌, ◌++◌, Option, Some, None, refl, sym, ap, ◌∙◌, subst, arith, slice_get}
 use Rattle.px_terms.specs.declared.program.ReplicaDef.{ReplicaDef}
 use Rattle.px_terms.specs.declared.program.Program.{Program}

@@ -1,4 +1,4 @@
--- What stands where in a list of events: events that are counted by a test have a number each, so an update and a message has one place.
+-- What stands where in a list of events: events that are counted by a test have a number each, so each update and each message has one place.
 use Rattle.std.proofs.Common.{◌≡◌, ℕ, zero, suc, ◌+◌, ◌<◌, Bool, true, cond, List, [], ◌∷◌, take, count_by, Some, refl, sym, ap, ◌∙◌, arith, inl, inr, slice_get}
 use Rattle.std.proofs.lemmas.List.Sums.{sum_by-cons}
 use Rattle.std.proofs.lemmas.Bool.{cases_lt}

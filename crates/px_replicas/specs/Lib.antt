@@ -5,3 +5,5 @@ pub mod Lines
 pub mod Worlds
 pub mod Laws
 pub mod Holdings
+pub mod Keeping
+pub mod Serving

@@ -1,9 +1,16 @@
-//! Stub.
+//! Replicas of a state-based data type, event by event. `World` keeps what each replica and each message holds: its update numbers
+//! and its state. A state is kept once, as a version; replicas and messages name versions, so sending copies nothing, and a
+//! version that nothing names is kept no longer. What a replica holds, the join of that and the lines of a run are definitions
+//! (`specs/`), which know nothing of versions; whatever is lost, repeated or reordered, a world stands for its schedule by them.
 #![tactic(auto)]
 
+mod first;
 mod laws;
+mod merge;
 mod shown;
+mod unions;
 mod version;
+mod versions;
 mod world;
 
 pub use laws::{
