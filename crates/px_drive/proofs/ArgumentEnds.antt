@@ -7,7 +7,7 @@ use Rattle.px_drive.specs.declared.arguments.ClosedCall.{ClosedCall}
 use Rattle.px_drive.specs.declared.outcome.ArgumentKind.{ArgumentKind}
 use Rattle.px_drive.specs.declared.outcome.CommandLine.TheVariants.{Eval}
 use Rattle.px_drive.specs.declared.outcome.End.{End}
-use Rattle.px_drive.specs.declared.outcome.End.TheVariants.{Done, Usage, Source, Rejected, Spent, ReadFault, WriteFault, NoMemory, TooLong, Arguments}
+use Rattle.px_drive.specs.declared.outcome.End.TheVariants.{Done, Usage, Source, Rejected, Schedule, Spent, ReadFault, WriteFault, NoMemory, TooLong, Arguments}
 use Rattle.px_drive.specs.Seen.{SinkSeen}
 use Rattle.px_drive.specs.Sources.{IsSource}
 use Rattle.px_drive.specs.Arguments.{IsCall, IsNoCall, IsValueOfCall}
@@ -22,6 +22,7 @@ pub unspelled : (text : List ℕ) (end : End) → Spells text (Err end) → IsCh
 unspelled text NoMemory h = inr refl
 unspelled text Done h = absurd h
 unspelled text Usage h = absurd h
+unspelled text (Schedule at rule) h = absurd h
 unspelled text (Source fault) h = absurd h
 unspelled text (Rejected number why) h = absurd h
 unspelled text (Spent event) h = absurd h
@@ -39,6 +40,7 @@ module _ (source : List ℕ) (P : Program) (is : IsSource source P) (name : List
   none_refused one kind number NoMemory none h = inr (inr refl)
   none_refused one kind number Done none h = absurd h
   none_refused one kind number Usage none h = absurd h
+  none_refused one kind number (Schedule at rule) none h = absurd h
   none_refused one kind number (Source fault) none h = absurd h
   none_refused one kind number (Rejected line why) none h = absurd h
   none_refused one kind number (Spent event) none h = absurd h
@@ -58,6 +60,7 @@ module _ (source : List ℕ) (P : Program) (is : IsSource source P) (name : List
   call_found never call NoMemory finds h = inr refl
   call_found never call Done finds h = absurd h
   call_found never call Usage finds h = absurd h
+  call_found never call (Schedule at rule) finds h = absurd h
   call_found never call (Source fault) finds h = absurd h
   call_found never call (Rejected line why) finds h = absurd h
   call_found never call (Spent event) finds h = absurd h
@@ -81,6 +84,7 @@ module _ (source : List ℕ) (P : Program) (is : IsSource source P) (name : List
     above_ends other found budget NoMemory h = inr (inr refl)
     above_ends other found budget Done h = absurd h
     above_ends other found budget Usage h = absurd h
+    above_ends other found budget (Schedule at rule) h = absurd h
     above_ends other found budget (Source fault) h = absurd h
     above_ends other found budget (Rejected line why) h = absurd h
     above_ends other found budget (Arguments kind number) h = absurd h
@@ -96,6 +100,7 @@ module _ (source : List ℕ) (P : Program) (is : IsSource source P) (name : List
     within_ends other found budget NoMemory within h = inr refl
     within_ends other found budget Done within h = absurd h
     within_ends other found budget Usage within h = absurd h
+    within_ends other found budget (Schedule at rule) within h = absurd h
     within_ends other found budget (Source fault) within h = absurd h
     within_ends other found budget (Rejected line why) within h = absurd h
     within_ends other found budget (Arguments kind number) within h = absurd h

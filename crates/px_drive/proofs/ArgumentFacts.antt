@@ -17,7 +17,7 @@ use Rattle.px_drive.specs.declared.arguments.ClosedCall.{ClosedCall}
 use Rattle.px_drive.specs.declared.outcome.ArgumentKind.{ArgumentKind}
 use Rattle.px_drive.specs.declared.outcome.ArgumentKind.TheVariants.{NoSuchName}
 use Rattle.px_drive.specs.declared.outcome.End.{End}
-use Rattle.px_drive.specs.declared.outcome.End.TheVariants.{Done, Usage, Source, Rejected, Spent, ReadFault, WriteFault, NoMemory, TooLong, Arguments}
+use Rattle.px_drive.specs.declared.outcome.End.TheVariants.{Done, Usage, Source, Rejected, Schedule, Spent, ReadFault, WriteFault, NoMemory, TooLong, Arguments}
 use Rattle.px_drive.specs.Arguments.{IsDefined, IsPlain, IsValueOf, AreValuesOf, none, more as one_more, IsFirstBad, IsNoCall, no_such_name, bad_value}
 use Rattle.px_drive.specs.Ends.{ReadsValues, FindsCall}
 
@@ -133,6 +133,7 @@ module _ (P : Program) (name : List ℕ) (words : List (List ℕ)) where
   values_refused n D types defined plain are as_many NoMemory h = tt
   values_refused n D types defined plain are as_many Done h = absurd h
   values_refused n D types defined plain are as_many Usage h = absurd h
+  values_refused n D types defined plain are as_many (Schedule at rule) h = absurd h
   values_refused n D types defined plain are as_many (Source fault) h = absurd h
   values_refused n D types defined plain are as_many (Rejected number why) h = absurd h
   values_refused n D types defined plain are as_many (Spent event) h = absurd h

@@ -6,10 +6,11 @@ use Rattle.px_replay.specs.declared.ends.Why.{Why}
 use Rattle.px_world.specs.Faults.{Rose}
 use Rattle.px_world.specs.Known.{Told, IsLonger}
 use Rattle.px_drive.specs.declared.outcome.CommandLine.{CommandLine}
-use Rattle.px_drive.specs.declared.outcome.CommandLine.TheVariants.{Check, Replay, Eval}
+use Rattle.px_drive.specs.declared.outcome.CommandLine.TheVariants.{Check, Replay, Eval, Run}
 use Rattle.px_drive.specs.declared.outcome.Which.TheVariants.{Program, Derivation}
+use Rattle.px_drive.specs.declared.outcome.Which.TheVariants as which
 use Rattle.px_drive.specs.declared.outcome.End.{End}
-use Rattle.px_drive.specs.declared.outcome.End.TheVariants.{Done, Usage, Source, Rejected, Spent, ReadFault, WriteFault, NoMemory, TooLong, Arguments}
+use Rattle.px_drive.specs.declared.outcome.End.TheVariants.{Done, Usage, Source, Rejected, Schedule, Spent, ReadFault, WriteFault, NoMemory, TooLong, Arguments}
 use Rattle.px_drive.specs.declared.outcome.SourceFault.{SourceFault}
 use Rattle.px_drive.specs.declared.outcome.SourceFault.TheVariants.{Lex, Parse, Scope, Typing, Descent}
 use Rattle.px_drive.specs.Lines.{line_of, program_of}
@@ -17,19 +18,26 @@ use Rattle.px_drive.specs.Seen.{FilesSeen, SinkSeen}
 use Rattle.px_drive.specs.Ends.{limit_of, ReadsText, Accepts, Prints, AndThen, LineEnds}
 use Rattle.px_drive.specs.Messages.{checked_line, accepted_line, evaluated_by}
 use Rattle.px_drive.specs.Sources.{IsSourceFault, Sources}
-use Rattle.px_drive.specs.Laws.{OneSourceFault, NeverBoth, NeverRejected, UsageByWords, DoneOrUsage, EndsAreNamed, IsFaulty, SourceIsFaulty, FaultyIsSource, DoneIsChecked, DoneIsReplayed, RejectedIsRefused, TooLongIsLonger, LongIsTooLong, LongIsNotReplayed, RefusalsPrintNothing, DoneIsEvaluated, ArgumentsAreRefused, SpentIsAbove}
+use Rattle.px_drive.specs.Laws.{OneSourceFault, NeverBoth, NeverRejected, UsageByWords, DoneOrUsage, EndsAreNamed, IsFaulty, SourceIsFaulty, FaultyIsSource, DoneIsChecked, DoneIsReplayed, RejectedIsRefused, TooLongIsLonger, LongIsTooLong, LongIsNotReplayed, RefusalsPrintNothing, LeavesLines, DoneIsEvaluated, ArgumentsAreRefused, SpentIsAbove}
 use Rattle.px_drive.specs.declared.outcome.ArgumentKind.{ArgumentKind}
+use Rattle.px_schedule.specs.declared.schedule_end.ScheduleKind.{ScheduleKind}
 use Rattle.px_drive.proofs.EvalEnds.{EvalGoes, OwnEnd, own_end, Found, found, not_found, Exceeds, exceeds}
+use Rattle.px_drive.proofs.RunEnds.{RunGoes, IsLate, OwnRunEnd, own_run_end, parts, events_ends}
 
 -- what a line does after its program was read
 abbrev pub Goes : FilesSeen → SinkSeen → CommandLine → AnyProgram → End → List ℕ → Type 0
 Goes files out (Check file) program = Prints (checked_line program) out
 Goes files out (Replay file derivation) program = AndThen (ReadsText Derivation files derivation) (λ bytes. AndThen (Accepts program bytes) (λ n. Prints (accepted_line n) out))
 Goes files out (Eval file name words budget) program = EvalGoes out name words budget program
+Goes files out (Run file derivation schedule budget) program = RunGoes files out derivation schedule budget program
 
 -- after its program was read `eval` has its own ends alone
 goes_own : (files : FilesSeen) (out : SinkSeen) (file name : List ℕ) (words : List (List ℕ)) (budget : ℕ) (program : AnyProgram) (end : End) (printed : List ℕ) → Goes files out (Eval file name words budget) program end printed → OwnEnd out end
 goes_own files out file name words budget program end printed h = own_end out name words budget program end printed h
+
+-- so has `run`
+goes_run : (files : FilesSeen) (out : SinkSeen) (file derivation schedule : List ℕ) (budget : ℕ) (program : AnyProgram) (end : End) (printed : List ℕ) → Goes files out (Run file derivation schedule budget) program end printed → OwnRunEnd files out end
+goes_run files out file derivation schedule budget program end printed h = own_run_end files out derivation schedule budget program end printed h
 
 -- each line reads its program first
 abbrev Begins : FilesSeen → SinkSeen → CommandLine → End → List ℕ → Type 0
@@ -39,6 +47,7 @@ begins : (files : FilesSeen) (out : SinkSeen) (line : CommandLine) (end : End) (
 begins files out (Check file) end printed h = h
 begins files out (Replay file derivation) end printed h = h
 begins files out (Eval file name words budget) end printed h = h
+begins files out (Run file derivation schedule budget) end printed h = h
 
 -- a line doesn't end in Usage
 pub no_usage : (files : FilesSeen) (out : SinkSeen) (line : CommandLine) (printed : List ℕ) → LineEnds files out line Usage printed → ⊥
@@ -53,6 +62,13 @@ no_usage files out (Replay file derivation) printed (inr (text, _, inr (program,
 no_usage files out (Eval file name words budget) printed (inl (h, _)) = h
 no_usage files out (Eval file name words budget) printed (inr (text, _, inl (h, _))) = h
 no_usage files out (Eval file name words budget) printed (inr (text, _, inr (program, _, h))) = goes_own files out file name words budget program Usage printed h
+no_usage files out (Run file derivation schedule budget) printed (inl (h, _)) = h
+no_usage files out (Run file derivation schedule budget) printed (inr (text, _, inl (h, _))) = h
+no_usage files out (Run file derivation schedule budget) printed (inr (text, _, inr (program, _, h))) =
+    elim (goes_run files out file derivation schedule budget program Usage printed h) [
+      | inl early ↦ early
+      | inr late ↦ late
+    ]
 
 -- `check` ends neither in Rejected, nor with a derivation that is too long
 check_is_named : (files : FilesSeen) (out : SinkSeen) (file printed : List ℕ) → ((number : ℕ) (why : Why) → LineEnds files out (Check file) (Rejected number why) printed → ⊥) × (LineEnds files out (Check file) (TooLong Derivation) printed → ⊥)
@@ -67,6 +83,75 @@ check_is_named files out file printed = (rejected, derivation)
     derivation (inl ((differ, _), _)) = let no : Derivation ≡ Program = differ in cc
     derivation (inr (text, _, inl (h, _))) = h
     derivation (inr (text, _, inr (program, _, h))) = h
+
+-- `check` reads no schedule
+check_has_no_schedule : (files : FilesSeen) (out : SinkSeen) (file printed : List ℕ) → ((number : ℕ) (kind : ScheduleKind) → LineEnds files out (Check file) (Schedule number kind) printed → ⊥) × (LineEnds files out (Check file) (TooLong which.Schedule) printed → ⊥)
+check_has_no_schedule files out file printed = (fault, long)
+  where
+    fault : (number : ℕ) (kind : ScheduleKind) → LineEnds files out (Check file) (Schedule number kind) printed → ⊥
+    fault number kind (inl (h, _)) = h
+    fault number kind (inr (text, _, inl (h, _))) = h
+    fault number kind (inr (text, _, inr (program, _, h))) = h
+
+    long : LineEnds files out (Check file) (TooLong which.Schedule) printed → ⊥
+    long (inl ((differ, _), _)) = let no : which.Schedule ≡ Program = differ in cc
+    long (inr (text, _, inl (h, _))) = h
+    long (inr (text, _, inr (program, _, h))) = h
+
+-- nor does `replay`
+replay_has_no_schedule : (files : FilesSeen) (out : SinkSeen) (file derivation printed : List ℕ) → ((number : ℕ) (kind : ScheduleKind) → LineEnds files out (Replay file derivation) (Schedule number kind) printed → ⊥) × (LineEnds files out (Replay file derivation) (TooLong which.Schedule) printed → ⊥)
+replay_has_no_schedule files out file derivation printed = (fault, long)
+  where
+    fault : (number : ℕ) (kind : ScheduleKind) → LineEnds files out (Replay file derivation) (Schedule number kind) printed → ⊥
+    fault number kind (inl (h, _)) = h
+    fault number kind (inr (text, _, inl (h, _))) = h
+    fault number kind (inr (text, _, inr (program, _, inl (h, _)))) = h
+    fault number kind (inr (text, _, inr (program, _, inr (steps, _, inl (h, _))))) = h
+    fault number kind (inr (text, _, inr (program, _, inr (steps, _, inr (n, _, h))))) = h
+
+    long : LineEnds files out (Replay file derivation) (TooLong which.Schedule) printed → ⊥
+    long (inl ((differ, _), _)) = let no : which.Schedule ≡ Program = differ in cc
+    long (inr (text, _, inl (h, _))) = h
+    long (inr (text, _, inr (program, _, inl ((differ, _), _)))) = let no : which.Schedule ≡ Derivation = differ in cc
+    long (inr (text, _, inr (program, _, inr (steps, _, inl (h, _))))) = h
+    long (inr (text, _, inr (program, _, inr (steps, _, inr (n, _, h))))) = h
+
+-- nor does `eval`
+eval_has_no_schedule : (files : FilesSeen) (out : SinkSeen) (file name : List ℕ) (words : List (List ℕ)) (budget : ℕ) (printed : List ℕ) → ((number : ℕ) (kind : ScheduleKind) → LineEnds files out (Eval file name words budget) (Schedule number kind) printed → ⊥) × (LineEnds files out (Eval file name words budget) (TooLong which.Schedule) printed → ⊥)
+eval_has_no_schedule files out file name words budget printed = (fault, long)
+  where
+    fault : (number : ℕ) (kind : ScheduleKind) → LineEnds files out (Eval file name words budget) (Schedule number kind) printed → ⊥
+    fault number kind (inl (h, _)) = h
+    fault number kind (inr (text, _, inl (h, _))) = h
+    fault number kind (inr (text, _, inr (program, _, h))) = goes_own files out file name words budget program (Schedule number kind) printed h
+
+    long : LineEnds files out (Eval file name words budget) (TooLong which.Schedule) printed → ⊥
+    long (inl ((differ, _), _)) = let no : which.Schedule ≡ Program = differ in cc
+    long (inr (text, _, inl (h, _))) = h
+    long (inr (text, _, inr (program, _, h))) = goes_own files out file name words budget program (TooLong which.Schedule) printed h
+
+-- `run` evaluates no call, and numbers events from 1
+run_is_named : (files : FilesSeen) (out : SinkSeen) (file derivation schedule : List ℕ) (budget : ℕ) (printed : List ℕ) → ((kind : ArgumentKind) (word : ℕ) → LineEnds files out (Run file derivation schedule budget) (Arguments kind word) printed → ⊥)
+    × ((event : ℕ) → LineEnds files out (Run file derivation schedule budget) (Spent event) printed → 0 < event)
+run_is_named files out file derivation schedule budget printed = (arguments, spent)
+  where
+    arguments : (kind : ArgumentKind) (word : ℕ) → LineEnds files out (Run file derivation schedule budget) (Arguments kind word) printed → ⊥
+    arguments kind word (inl (h, _)) = h
+    arguments kind word (inr (text, _, inl (h, _))) = h
+    arguments kind word (inr (text, _, inr (program, _, h))) =
+        elim (goes_run files out file derivation schedule budget program (Arguments kind word) printed h) [
+          | inl early ↦ early
+          | inr late ↦ late
+        ]
+
+    spent : (event : ℕ) → LineEnds files out (Run file derivation schedule budget) (Spent event) printed → 0 < event
+    spent event (inl (h, _)) = absurd h
+    spent event (inr (text, _, inl (h, _))) = absurd h
+    spent event (inr (text, _, inr (program, _, h))) =
+        elim (goes_run files out file derivation schedule budget program (Spent event) printed h) [
+          | inl early ↦ absurd early
+          | inr late ↦ late
+        ]
 
 -- `check` evaluates no call
 check_asks_no_call : (files : FilesSeen) (out : SinkSeen) (file printed : List ℕ) → ((event : ℕ) → LineEnds files out (Check file) (Spent event) printed → ⊥) × ((kind : ArgumentKind) (word : ℕ) → LineEnds files out (Check file) (Arguments kind word) printed → ⊥)
@@ -130,6 +215,8 @@ ends_are_named files out (Check file) (Source (Descent def call)) printed h = tt
 ends_are_named files out (Check file) (Rejected number why) printed h = (check_is_named files out file printed).0 number why h
 ends_are_named files out (Check file) (Spent event) printed h = (check_asks_no_call files out file printed).0 event h
 ends_are_named files out (Check file) (Arguments kind word) printed h = (check_asks_no_call files out file printed).1 kind word h
+ends_are_named files out (Check file) (Schedule number kind) printed h = (check_has_no_schedule files out file printed).0 number kind h
+ends_are_named files out (Check file) (TooLong which.Schedule) printed h = (check_has_no_schedule files out file printed).1 h
 ends_are_named files out (Check file) ReadFault printed h = tt
 ends_are_named files out (Check file) WriteFault printed h = tt
 ends_are_named files out (Check file) NoMemory printed h = tt
@@ -141,6 +228,8 @@ ends_are_named files out (Replay file derivation) (Source fault) printed h = tt
 ends_are_named files out (Replay file derivation) (Rejected number why) printed h = tt
 ends_are_named files out (Replay file derivation) (Spent event) printed h = (replay_is_named files out file derivation printed).0 event h
 ends_are_named files out (Replay file derivation) (Arguments kind word) printed h = (replay_is_named files out file derivation printed).1 kind word h
+ends_are_named files out (Replay file derivation) (Schedule number kind) printed h = (replay_has_no_schedule files out file derivation printed).0 number kind h
+ends_are_named files out (Replay file derivation) (TooLong which.Schedule) printed h = (replay_has_no_schedule files out file derivation printed).1 h
 ends_are_named files out (Replay file derivation) ReadFault printed h = tt
 ends_are_named files out (Replay file derivation) WriteFault printed h = tt
 ends_are_named files out (Replay file derivation) NoMemory printed h = tt
@@ -151,18 +240,32 @@ ends_are_named files out (Eval file name words budget) Usage printed h = no_usag
 ends_are_named files out (Eval file name words budget) (Source fault) printed h = tt
 ends_are_named files out (Eval file name words budget) (Rejected number why) printed h = (eval_is_named files out file name words budget printed).0 number why h
 ends_are_named files out (Eval file name words budget) (Spent event) printed h = (eval_is_named files out file name words budget printed).2 event h
+ends_are_named files out (Eval file name words budget) (Schedule number kind) printed h = (eval_has_no_schedule files out file name words budget printed).0 number kind h
+ends_are_named files out (Eval file name words budget) (TooLong which.Schedule) printed h = (eval_has_no_schedule files out file name words budget printed).1 h
 ends_are_named files out (Eval file name words budget) ReadFault printed h = tt
 ends_are_named files out (Eval file name words budget) WriteFault printed h = tt
 ends_are_named files out (Eval file name words budget) NoMemory printed h = tt
 ends_are_named files out (Eval file name words budget) (TooLong Program) printed h = tt
 ends_are_named files out (Eval file name words budget) (TooLong Derivation) printed h = (eval_is_named files out file name words budget printed).1 h
 ends_are_named files out (Eval file name words budget) (Arguments kind word) printed h = tt
+ends_are_named files out (Run file derivation schedule budget) Done printed h = tt
+ends_are_named files out (Run file derivation schedule budget) Usage printed h = no_usage files out (Run file derivation schedule budget) printed h
+ends_are_named files out (Run file derivation schedule budget) (Source fault) printed h = tt
+ends_are_named files out (Run file derivation schedule budget) (Rejected number why) printed h = tt
+ends_are_named files out (Run file derivation schedule budget) (Schedule number kind) printed h = tt
+ends_are_named files out (Run file derivation schedule budget) (Spent event) printed h = (run_is_named files out file derivation schedule budget printed).1 event h
+ends_are_named files out (Run file derivation schedule budget) ReadFault printed h = tt
+ends_are_named files out (Run file derivation schedule budget) WriteFault printed h = tt
+ends_are_named files out (Run file derivation schedule budget) NoMemory printed h = tt
+ends_are_named files out (Run file derivation schedule budget) (TooLong long) printed h = tt
+ends_are_named files out (Run file derivation schedule budget) (Arguments kind word) printed h = (run_is_named files out file derivation schedule budget printed).0 kind word h
 
 pub usage_is_by_words : UsageByWords
 usage_is_by_words words files out None Usage h = (λ _. h.0, λ _. inl refl)
 usage_is_by_words words files out None NoMemory h = (λ (e : NoMemory ≡ Usage). (cc), λ _. inr refl)
 usage_is_by_words words files out None Done h = absurd h.0
 usage_is_by_words words files out None (Source fault) h = absurd h.0
+usage_is_by_words words files out None (Schedule number kind) h = absurd h.0
 usage_is_by_words words files out None (Rejected number why) h = absurd h.0
 usage_is_by_words words files out None (Spent event) h = absurd h.0
 usage_is_by_words words files out None (Arguments kind word) h = absurd h.0
@@ -275,6 +378,11 @@ not_too_long files out (Replay file derivation) program printed (inl ((differ, _
 not_too_long files out (Replay file derivation) program printed (inr (bytes, _, inl (h, _))) = h
 not_too_long files out (Replay file derivation) program printed (inr (bytes, _, inr (n, _, h))) = h
 not_too_long files out (Eval file name words budget) program printed h = goes_own files out file name words budget program (TooLong Program) printed h
+not_too_long files out (Run file derivation schedule budget) program printed h =
+    elim (goes_run files out file derivation schedule budget program (TooLong Program) printed h) [
+      | inl early ↦ early refl
+      | inr late ↦ late
+    ]
 
 program_is_longer : (files : FilesSeen) (out : SinkSeen) (line : CommandLine) (printed : List ℕ) → Begins files out line (TooLong Program) printed → IsLonger (files.bytes (program_of line)) (limit_of Program)
 program_is_longer files out line printed (inl ((_, (came, consumed, above)), _)) = longer _ _ came _ consumed above
@@ -305,6 +413,7 @@ long_ends files out line printed text ReadFault known above (inl h) = inr (inl r
 long_ends files out line printed text NoMemory known above (inl h) = inr (inr refl)
 long_ends files out line printed text Done known above (inl (h, _)) = absurd h
 long_ends files out line printed text Usage known above (inl (h, _)) = absurd h
+long_ends files out line printed text (Schedule at rule) known above (inl (h, _)) = absurd h
 long_ends files out line printed text (Source fault) known above (inl (h, _)) = absurd h
 long_ends files out line printed text (Rejected number why) known above (inl (h, _)) = absurd h
 long_ends files out line printed text (Spent event) known above (inl (h, _)) = absurd h
@@ -330,6 +439,7 @@ long_is_not_replayed files out file derivation printed bytes WriteFault known ab
 long_is_not_replayed files out file derivation printed bytes WriteFault known above (inr (text, _, inr (program, _, inl (h, _)))) = absurd h
 long_is_not_replayed files out file derivation printed bytes WriteFault known above (inr (text, _, inr (program, _, inr (steps, read, rest)))) =
     absurd (not_whole (files.bytes derivation) bytes steps (limit_of Derivation) known above read.0 read.1)
+long_is_not_replayed files out file derivation printed bytes (Schedule number kind) known above h = (replay_has_no_schedule files out file derivation printed).0 number kind h
 long_is_not_replayed files out file derivation printed bytes (Spent event) known above h = (replay_is_named files out file derivation printed).0 event h
 long_is_not_replayed files out file derivation printed bytes (Arguments kind word) known above h = (replay_is_named files out file derivation printed).1 kind word h
 long_is_not_replayed files out file derivation printed bytes Usage known above h = no_usage files out (Replay file derivation) printed h
@@ -343,6 +453,7 @@ prints_done : (line : List ℕ) (out : SinkSeen) (end : End) (printed : List ℕ
 prints_done line out Done printed h = inl refl
 prints_done line out WriteFault printed h = inr refl
 prints_done line out Usage printed h = absurd h
+prints_done line out (Schedule at rule) printed h = absurd h
 prints_done line out (Source fault) printed h = absurd h
 prints_done line out (Rejected number why) printed h = absurd h
 prints_done line out (Spent event) printed h = absurd h
@@ -355,22 +466,43 @@ neither : (end : End) → (end ≡ Done) ⊎ (end ≡ WriteFault) → ¬ (end �
 neither end (inl is) not_done not_fault = not_done is
 neither end (inr is) not_done not_fault = not_fault is
 
+-- where events end a run, it is done, or it may have printed lines
+late_prints : (files : FilesSeen) (out : SinkSeen) (file derivation schedule : List ℕ) (budget : ℕ) (end : End) → IsLate out end → ¬ (end ≡ Done) → ¬ (end ≡ WriteFault) → ¬ LeavesLines (Run file derivation schedule budget) end → ⊥
+late_prints files out file derivation schedule budget Done late not_done not_fault no_lines = not_done refl
+late_prints files out file derivation schedule budget WriteFault late not_done not_fault no_lines = not_fault refl
+late_prints files out file derivation schedule budget (Spent event) late not_done not_fault no_lines = no_lines tt
+late_prints files out file derivation schedule budget NoMemory late not_done not_fault no_lines = no_lines tt
+late_prints files out file derivation schedule budget Usage late not_done not_fault no_lines = late
+late_prints files out file derivation schedule budget (Source fault) late not_done not_fault no_lines = late
+late_prints files out file derivation schedule budget (Rejected number why) late not_done not_fault no_lines = late
+late_prints files out file derivation schedule budget (Schedule number kind) late not_done not_fault no_lines = late
+late_prints files out file derivation schedule budget ReadFault late not_done not_fault no_lines = late
+late_prints files out file derivation schedule budget (TooLong long) late not_done not_fault no_lines = late
+late_prints files out file derivation schedule budget (Arguments kind word) late not_done not_fault no_lines = late
+
 pub refusals_print_nothing : RefusalsPrintNothing
-refusals_print_nothing files out (Check file) printed end (inl (_, none)) not_done not_fault = none
-refusals_print_nothing files out (Check file) printed end (inr (text, _, inl (_, none))) not_done not_fault = none
-refusals_print_nothing files out (Check file) printed end (inr (text, _, inr (program, _, h))) not_done not_fault = absurd (neither end (prints_done (checked_line program) out end printed h) not_done not_fault)
-refusals_print_nothing files out (Replay file derivation) printed end (inl (_, none)) not_done not_fault = none
-refusals_print_nothing files out (Replay file derivation) printed end (inr (text, _, inl (_, none))) not_done not_fault = none
-refusals_print_nothing files out (Replay file derivation) printed end (inr (text, _, inr (program, _, inl (_, none)))) not_done not_fault = none
-refusals_print_nothing files out (Replay file derivation) printed end (inr (text, _, inr (program, _, inr (steps, _, inl (_, none))))) not_done not_fault = none
-refusals_print_nothing files out (Replay file derivation) printed end (inr (text, _, inr (program, _, inr (steps, _, inr (n, _, h))))) not_done not_fault = absurd (neither end (prints_done (accepted_line n) out end printed h) not_done not_fault)
-refusals_print_nothing files out (Eval file name words budget) printed end (inl (_, none)) not_done not_fault = none
-refusals_print_nothing files out (Eval file name words budget) printed end (inr (text, _, inl (_, none))) not_done not_fault = none
-refusals_print_nothing files out (Eval file name words budget) printed end (inr (text, _, inr (program, _, inl (_, none)))) not_done not_fault = none
-refusals_print_nothing files out (Eval file name words budget) printed end (inr (text, _, inr (program, _, inr (call, _, inl (_, none))))) not_done not_fault = none
-refusals_print_nothing files out (Eval file name words budget) printed end (inr (text, _, inr (program, _, inr (call, _, inr (done, _, inl (_, none)))))) not_done not_fault = none
-refusals_print_nothing files out (Eval file name words budget) printed end (inr (text, _, inr (program, _, inr (call, _, inr (done, _, inr (bytes, _, h)))))) not_done not_fault =
+refusals_print_nothing files out (Check file) printed end (inl (_, none)) not_done not_fault no_lines = none
+refusals_print_nothing files out (Check file) printed end (inr (text, _, inl (_, none))) not_done not_fault no_lines = none
+refusals_print_nothing files out (Check file) printed end (inr (text, _, inr (program, _, h))) not_done not_fault no_lines = absurd (neither end (prints_done (checked_line program) out end printed h) not_done not_fault)
+refusals_print_nothing files out (Replay file derivation) printed end (inl (_, none)) not_done not_fault no_lines = none
+refusals_print_nothing files out (Replay file derivation) printed end (inr (text, _, inl (_, none))) not_done not_fault no_lines = none
+refusals_print_nothing files out (Replay file derivation) printed end (inr (text, _, inr (program, _, inl (_, none)))) not_done not_fault no_lines = none
+refusals_print_nothing files out (Replay file derivation) printed end (inr (text, _, inr (program, _, inr (steps, _, inl (_, none))))) not_done not_fault no_lines = none
+refusals_print_nothing files out (Replay file derivation) printed end (inr (text, _, inr (program, _, inr (steps, _, inr (n, _, h))))) not_done not_fault no_lines = absurd (neither end (prints_done (accepted_line n) out end printed h) not_done not_fault)
+refusals_print_nothing files out (Eval file name words budget) printed end (inl (_, none)) not_done not_fault no_lines = none
+refusals_print_nothing files out (Eval file name words budget) printed end (inr (text, _, inl (_, none))) not_done not_fault no_lines = none
+refusals_print_nothing files out (Eval file name words budget) printed end (inr (text, _, inr (program, _, inl (_, none)))) not_done not_fault no_lines = none
+refusals_print_nothing files out (Eval file name words budget) printed end (inr (text, _, inr (program, _, inr (call, _, inl (_, none))))) not_done not_fault no_lines = none
+refusals_print_nothing files out (Eval file name words budget) printed end (inr (text, _, inr (program, _, inr (call, _, inr (done, _, inl (_, none)))))) not_done not_fault no_lines = none
+refusals_print_nothing files out (Eval file name words budget) printed end (inr (text, _, inr (program, _, inr (call, _, inr (done, _, inr (bytes, _, h)))))) not_done not_fault no_lines =
     absurd (neither end (prints_done (evaluated_by bytes done.calls) out end printed h) not_done not_fault)
+refusals_print_nothing files out (Run file derivation schedule budget) printed end (inl (_, none)) not_done not_fault no_lines = none
+refusals_print_nothing files out (Run file derivation schedule budget) printed end (inr (text, _, inl (_, none))) not_done not_fault no_lines = none
+refusals_print_nothing files out (Run file derivation schedule budget) printed end (inr (text, _, inr (program, _, h))) not_done not_fault no_lines =
+    elim (parts files out derivation schedule budget program end printed h) [
+      | inl early ↦ early.1
+      | inr ran ↦ absurd (late_prints files out file derivation schedule budget end (events_ends program ran.recorded budget out end printed ran.runs) not_done not_fault no_lines)
+    ]
 
 -- after the program was read there is no fault of its text
 no_fault_later : (files : FilesSeen) (out : SinkSeen) (line : CommandLine) (program : AnyProgram) (fault : SourceFault) (printed : List ℕ) → Goes files out line program (Source fault) printed → ⊥
@@ -379,6 +511,11 @@ no_fault_later files out (Replay file derivation) program fault printed (inl (h,
 no_fault_later files out (Replay file derivation) program fault printed (inr (bytes, _, inl (h, _))) = h
 no_fault_later files out (Replay file derivation) program fault printed (inr (bytes, _, inr (n, _, h))) = h
 no_fault_later files out (Eval file name words budget) program fault printed h = goes_own files out file name words budget program (Source fault) printed h
+no_fault_later files out (Run file derivation schedule budget) program fault printed h =
+    elim (goes_run files out file derivation schedule budget program (Source fault) printed h) [
+      | inl early ↦ early
+      | inr late ↦ late
+    ]
 
 faulty : (files : FilesSeen) (out : SinkSeen) (line : CommandLine) (printed : List ℕ) (fault : SourceFault) → Begins files out line (Source fault) printed → IsFaulty files line fault
 faulty files out line printed fault (inl (h, _)) = absurd h
@@ -409,6 +546,7 @@ module _ (one_fault : OneSourceFault) (never_both : NeverBoth) where
   refused text fault NoMemory is h = inr (inr refl)
   refused text fault Done is h = absurd h
   refused text fault Usage is h = absurd h
+  refused text fault (Schedule at rule) is h = absurd h
   refused text fault (Rejected number why) is h = absurd h
   refused text fault (Spent event) is h = absurd h
   refused text fault (Arguments kind word) is h = absurd h
@@ -429,6 +567,7 @@ module _ (one_fault : OneSourceFault) (never_both : NeverBoth) where
   faulty_ends files out line printed text fault NoMemory known fits is (inl h) = inr (inr refl)
   faulty_ends files out line printed text fault Done known fits is (inl (h, _)) = absurd h
   faulty_ends files out line printed text fault Usage known fits is (inl (h, _)) = absurd h
+  faulty_ends files out line printed text fault (Schedule at rule) known fits is (inl (h, _)) = absurd h
   faulty_ends files out line printed text fault (Source found) known fits is (inl (h, _)) = absurd h
   faulty_ends files out line printed text fault (Rejected number why) known fits is (inl (h, _)) = absurd h
   faulty_ends files out line printed text fault (Spent event) known fits is (inl (h, _)) = absurd h
@@ -445,6 +584,11 @@ goes_fault files out (Replay file derivation) program printed (inl (reads, _)) =
 goes_fault files out (Replay file derivation) program printed (inr (bytes, _, inl (h, _))) = absurd h
 goes_fault files out (Replay file derivation) program printed (inr (bytes, _, inr (n, _, h))) = absurd h
 goes_fault files out (Eval file name words budget) program printed h = absurd (goes_own files out file name words budget program ReadFault printed h)
+goes_fault files out (Run file derivation schedule budget) program printed h =
+    elim (goes_run files out file derivation schedule budget program ReadFault printed h) [
+      | inl early ↦ early
+      | inr late ↦ absurd late
+    ]
 
 read_fault : (files : FilesSeen) (out : SinkSeen) (line : CommandLine) (printed : List ℕ) → Begins files out line ReadFault printed → Rose files.before files.after
 read_fault files out line printed (inl (reads, _)) = reads.0
@@ -461,6 +605,11 @@ goes_unwritten files out (Replay file derivation) program printed (inl (h, _)) =
 goes_unwritten files out (Replay file derivation) program printed (inr (bytes, _, inl (h, _))) = absurd h
 goes_unwritten files out (Replay file derivation) program printed (inr (bytes, _, inr (n, _, h))) = h.0
 goes_unwritten files out (Eval file name words budget) program printed h = goes_own files out file name words budget program WriteFault printed h
+goes_unwritten files out (Run file derivation schedule budget) program printed h =
+    elim (goes_run files out file derivation schedule budget program WriteFault printed h) [
+      | inl early ↦ absurd early
+      | inr late ↦ late
+    ]
 
 unwritten : (files : FilesSeen) (out : SinkSeen) (line : CommandLine) (printed : List ℕ) → Begins files out line WriteFault printed → Rose out.before out.after
 unwritten files out line printed (inl (h, _)) = absurd h

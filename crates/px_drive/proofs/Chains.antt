@@ -1,11 +1,11 @@
 -- The stages of a command: what a `?` passes on, and what a later stage shows of the whole call.
-use Rattle.std.proofs.Common.{◌≡◌, ◌≤◌, ℕ, List, Option, Result, Ok, Err, IsErrAnd, arith, subst, sym}
+use Rattle.std.proofs.Common.{◌≡◌, ◌∙◌, ◌≤◌, ℕ, List, Option, Result, Ok, Err, IsErrAnd, arith, subst, sym}
 use Rattle.px_terms.specs.declared.program.Program.{Program}
 use Rattle.px_world.specs.declared.files.Files as files
 use Rattle.px_drive.specs.declared.outcome.CommandLine.{CommandLine}
 use Rattle.px_drive.specs.declared.outcome.Which.{Which}
 use Rattle.px_drive.specs.declared.outcome.End.{End}
-use Rattle.px_drive.specs.declared.outcome.End.TheVariants.{Done, Usage, Source, Rejected, Spent, ReadFault, WriteFault, NoMemory, TooLong, Arguments}
+use Rattle.px_drive.specs.declared.outcome.End.TheVariants.{Done, Usage, Source, Rejected, Schedule, Spent, ReadFault, WriteFault, NoMemory, TooLong, Arguments}
 use Rattle.px_drive.specs.Lines.{ReadsLine}
 use Rattle.px_drive.specs.Seen.{FilesSeen, SinkSeen, files_seen, KeepsFiles}
 use Rattle.px_drive.specs.Ends.{ReadsText, ReadsSource, Runs, end_of}
@@ -34,11 +34,20 @@ read_later {F} device old mid new text name result keeps reads = by_result resul
     by_result (Err NoMemory) is = is
     by_result (Err Done) is = is
     by_result (Err Usage) is = is
+    by_result (Err (Schedule at rule)) is = is
     by_result (Err (Source fault)) is = is
     by_result (Err (Rejected number why)) is = is
     by_result (Err (Spent event)) is = is
     by_result (Err (Arguments kind word)) is = is
     by_result (Err WriteFault) is = is
+
+-- what two calls keep, both of them keep
+pub keeps_on : {F : Type 0} (device : files.Ghosts F) (old mid new : F) → KeepsFiles device old mid → KeepsFiles device mid new → KeepsFiles device old new
+keeps_on device old mid new first second = record {
+  texts = second.texts ∙ first.texts;
+  names = second.names ∙ first.names;
+  later = let one : device.faults old ≤ device.faults mid = first.later in let two : device.faults mid ≤ device.faults new = second.later in omega (arith, one, two);
+}
 
 -- a `?` hands the refusal of a program on
 pub refused_on : {F : Type 0} (device : files.Ghosts F) (old new : F) (name : List ℕ) (result : Result Program End) (end : End) → IsErrAnd result (λ e. e ≡ end) → ReadsSource (files_seen device old new) name (Err end) → ReadsSource (files_seen device old new) name result

@@ -5,29 +5,33 @@ use Rattle.px_terms.specs.declared.program.Program.{Program}
 use Rattle.px_world.specs.Faults.{Rose}
 use Rattle.px_drive.specs.declared.arguments.ClosedCall.{ClosedCall}
 use Rattle.px_drive.specs.declared.outcome.CommandLine.{CommandLine}
-use Rattle.px_drive.specs.declared.outcome.CommandLine.TheVariants.{Check, Replay, Eval}
+use Rattle.px_drive.specs.declared.outcome.CommandLine.TheVariants.{Check, Replay, Eval, Run}
 use Rattle.px_drive.specs.declared.outcome.Which.{Which}
 use Rattle.px_drive.specs.declared.outcome.Which.TheVariants as which
 use Rattle.px_drive.specs.declared.outcome.End.{End}
-use Rattle.px_drive.specs.declared.outcome.End.TheVariants.{Done, Usage, Source, Rejected, Spent, ReadFault, WriteFault, NoMemory, TooLong, Arguments}
+use Rattle.px_drive.specs.declared.outcome.End.TheVariants.{Done, Usage, Source, Rejected, Schedule, Spent, ReadFault, WriteFault, NoMemory, TooLong, Arguments}
 use Rattle.px_drive.specs.declared.outcome.Outcome.{Outcome}
 use Rattle.px_drive.specs.Lines.{line_of, ReadsLine}
+use Rattle.px_schedule.specs.declared.schedule.Schedule.{Schedule as Recorded}
+use Rattle.px_schedule.specs.Schedules.{IsSchedule}
 use Rattle.px_machine.specs.ValueText.{value_text}
 use Rattle.px_drive.specs.Messages.{checked_line, accepted_line, evaluated_by}
 use Rattle.px_drive.specs.Seen.{FilesSeen, SinkSeen}
-use Rattle.px_drive.specs.Ends.{limit_of, ReadsText, Accepts, Prints, LineEnds}
+use Rattle.px_drive.specs.Ends.{limit_of, ReadsText, Accepts, Prints, RunsEvents, LineEnds}
 use Rattle.px_drive.specs.Sources.{IsSource, Sources}
 use Rattle.px_drive.specs.Derivations.{IsDerivationOf}
 use Rattle.px_drive.specs.Arguments.{IsCall, IsValueOfCall}
 use Rattle.px_drive.specs.Laws.{OneSource, NeverBoth, NeverRejected, OneCall, NeverCallAndNone, OneValueOfCall}
 use Rattle.px_drive.specs.Answers.{Ends, Tells, IsAnswer}
-use Rattle.px_drive.specs.Completeness.{NoneRose, HasText, CanBeDone, checked, replayed, evaluated, IsDone, IsComplete}
+use Rattle.px_drive.specs.Completeness.{NoneRose, HasText, NoneIsAbove, CanBeDone, checked, replayed, evaluated, ran, IsDone, IsComplete}
 use Rattle.px_drive.proofs.EvalEnds.{EvalGoes}
 use Rattle.px_drive.proofs.Causes.{Goes, longer, told_is, not_longer, read_fault_rose}
 use Rattle.px_drive.proofs.TextEnds.{IsChance, program_read}
+use Rattle.px_drive.proofs.RunChances.{SchedulesAreCertain, RunsAreCertain, reaches, events_done}
 use Rattle.px_drive.proofs.ArgumentEnds.{unspelled, call_found, within_ends}
 
--- A text is one program and has no fault, a derivation of it is not rejected, and arguments are one call, with one value.
+-- A text is one program and has no fault, a derivation of it is not rejected, arguments are one call, with one value, and a text is one
+-- schedule and has no fault.
 pub record AreCertain : Type 0 where
   pub one_source : OneSource
   pub never_both : NeverBoth
@@ -35,6 +39,7 @@ pub record AreCertain : Type 0 where
   pub one_call : OneCall
   pub never_call_and_none : NeverCallAndNone
   pub one_value_of_call : OneValueOfCall
+  pub schedules : SchedulesAreCertain
 
 -- a text that is told and within its limit is read whole, but for want of memory
 read_whole : (text : Which) (files : FilesSeen) (name bytes : List ℕ) (result : Result (List ℕ) End) → HasText files text name bytes → ¬ Rose files.before files.after → ReadsText text files name result → (result ≡ Ok bytes) ⊎ (result ≡ Err NoMemory)
@@ -44,6 +49,7 @@ read_whole text files name bytes (Err ReadFault) has calm reads = absurd (calm r
 read_whole text files name bytes (Err NoMemory) has calm reads = inr refl
 read_whole text files name bytes (Err Done) has calm reads = absurd reads
 read_whole text files name bytes (Err Usage) has calm reads = absurd reads
+read_whole text files name bytes (Err (Schedule at rule)) has calm reads = absurd reads
 read_whole text files name bytes (Err (Source fault)) has calm reads = absurd reads
 read_whole text files name bytes (Err (Rejected number why)) has calm reads = absurd reads
 read_whole text files name bytes (Err (Spent event)) has calm reads = absurd reads
@@ -64,6 +70,7 @@ source_ends never_both text program (Source fault) source h = absurd (never_both
 source_ends never_both text program NoMemory source h = inr refl
 source_ends never_both text program Done source h = absurd h
 source_ends never_both text program Usage source h = absurd h
+source_ends never_both text program (Schedule at rule) source h = absurd h
 source_ends never_both text program (Rejected number why) source h = absurd h
 source_ends never_both text program (Spent event) source h = absurd h
 source_ends never_both text program (Arguments kind word) source h = absurd h
@@ -76,6 +83,7 @@ accepts_ends never program bytes (Rejected number why) derivation h = absurd (ne
 accepts_ends never program bytes NoMemory derivation h = inr refl
 accepts_ends never program bytes Done derivation h = absurd h
 accepts_ends never program bytes Usage derivation h = absurd h
+accepts_ends never program bytes (Schedule at rule) derivation h = absurd h
 accepts_ends never program bytes (Source fault) derivation h = absurd h
 accepts_ends never program bytes ReadFault derivation h = absurd h
 accepts_ends never program bytes WriteFault derivation h = absurd h
@@ -88,6 +96,7 @@ prints_ends line out Done printed calm h = inl refl
 prints_ends line out WriteFault printed calm h = absurd (calm h.0)
 prints_ends line out NoMemory printed calm h = absurd h
 prints_ends line out Usage printed calm h = absurd h
+prints_ends line out (Schedule at rule) printed calm h = absurd h
 prints_ends line out (Source fault) printed calm h = absurd h
 prints_ends line out (Rejected number why) printed calm h = absurd h
 prints_ends line out (Spent event) printed calm h = absurd h
@@ -142,14 +151,29 @@ module _ (laws : AreCertain) (files : FilesSeen) (out : SinkSeen) (calm : ¬ Ros
         either (inl chance) = chance_done (Eval file name words budget) end printed ends chance
         either (inr goes) = eval_goes_done end printed (chance_done (Eval file name words budget) end printed ends) goes
 
+  run_certain : RunsAreCertain
+  run_certain = record { one_source = laws.one_source; never_both = laws.never_both; never_rejected = laws.never_rejected; schedules = laws.schedules }
+
+  run_done : (file derivation schedule : List ℕ) (budget : ℕ) (text steps lines : List ℕ) (P : Program) (S : Recorded) (end : End) (printed : List ℕ) → HasText files which.Program file text → HasText files which.Derivation derivation steps → HasText files which.Schedule schedule lines
+      → IsSource text P → IsDerivationOf P steps → IsSchedule P lines S → NoneIsAbove P S budget → LineEnds files out (Run file derivation schedule budget) end printed → IsDone end
+  run_done file derivation schedule budget text steps lines P S end printed has has_steps has_lines source derived whole low ends =
+      either (reaches run_certain files out file derivation schedule budget text steps lines P S end printed has_steps has_lines source derived whole (program_read laws.one_source laws.never_both files out (Run file derivation schedule budget) printed text P end has source ends))
+    where
+      either : IsChance end ⊎ RunsEvents P S budget out end printed → IsDone end
+      either (inl chance) = chance_done (Run file derivation schedule budget) end printed ends chance
+      either (inr runs) = events_done P S budget out end printed calm_out low runs
+
   line_done : (line : CommandLine) (end : End) (printed : List ℕ) → CanBeDone files line → LineEnds files out line end printed → IsDone end
   line_done _ end printed (checked {file = file} text program has source) ends = check_done file text program end printed has source ends
   line_done _ end printed (replayed {file = file} {derivation = derivation} text steps program has has_steps source derives) ends = replay_done file derivation text steps program end printed has has_steps source derives ends
   line_done _ end printed (evaluated {file = file} {name = name} {words = words} {budget = budget} text program call v calls has source finds gives within) ends =
       eval_done file name words budget text program source call v calls finds gives within end printed has ends
+  line_done _ end printed (ran {file = file} {derivation = derivation} {schedule = schedule} {budget = budget} text steps lines program S has has_steps has_lines source derived whole low) ends =
+      run_done file derivation schedule budget text steps lines program S end printed has has_steps has_lines source derived whole low ends
 
 unread_done : (words : List (List ℕ)) (line : CommandLine) (end : End) → line_of words ≡ Some line → ReadsLine (line_of words) (Err end) → IsDone end
 unread_done words line Usage is none = cc
+unread_done words line (Schedule at rule) is h = absurd h
 unread_done words line NoMemory is h = inr refl
 unread_done words line Done is h = absurd h
 unread_done words line (Source fault) is h = absurd h

@@ -7,7 +7,7 @@ use Rattle.px_world.specs.Faults.{Rose}
 use Rattle.px_drive.specs.declared.arguments.ClosedCall.{ClosedCall}
 use Rattle.px_drive.specs.declared.outcome.ArgumentKind.{ArgumentKind}
 use Rattle.px_drive.specs.declared.outcome.End.{End}
-use Rattle.px_drive.specs.declared.outcome.End.TheVariants.{Done, Usage, Source, Rejected, Spent, ReadFault, WriteFault, NoMemory, TooLong, Arguments}
+use Rattle.px_drive.specs.declared.outcome.End.TheVariants.{Done, Usage, Source, Rejected, Schedule, Spent, ReadFault, WriteFault, NoMemory, TooLong, Arguments}
 use Rattle.px_drive.specs.Arguments.{IsCall, IsNoCall, IsValueOfCall}
 use Rattle.px_drive.specs.Messages.{evaluated_by, evaluated_lines}
 use Rattle.px_drive.specs.Seen.{SinkSeen}
@@ -25,6 +25,7 @@ EvalGoes out name words budget program =
 abbrev pub OwnEnd : SinkSeen → End → Type 0
 OwnEnd out Done = Unit {0}
 OwnEnd out Usage = ⊥
+OwnEnd out (Schedule at rule) = ⊥
 OwnEnd out (Source fault) = ⊥
 OwnEnd out (Rejected number why) = ⊥
 OwnEnd out (Spent event) = event ≡ 0
@@ -37,6 +38,7 @@ OwnEnd out (Arguments kind number) = Unit {0}
 find_ends : (out : SinkSeen) (program : Program) (name : List ℕ) (words : List (List ℕ)) (end : End) → FindsCall program name words (Err end) → OwnEnd out end
 find_ends out program name words Done h = tt
 find_ends out program name words Usage h = h
+find_ends out program name words (Schedule at rule) h = h
 find_ends out program name words (Source fault) h = h
 find_ends out program name words (Rejected number why) h = h
 find_ends out program name words (Spent event) h = absurd h
@@ -49,6 +51,7 @@ find_ends out program name words (Arguments kind number) h = tt
 evaluate_ends : (out : SinkSeen) (program : Program) (call : ClosedCall) (budget : ℕ) (end : End) → Evaluates program call budget (Err end) → OwnEnd out end
 evaluate_ends out program call budget Done h = tt
 evaluate_ends out program call budget Usage h = h
+evaluate_ends out program call budget (Schedule at rule) h = h
 evaluate_ends out program call budget (Source fault) h = h
 evaluate_ends out program call budget (Rejected number why) h = h
 evaluate_ends out program call budget (Spent event) h = h.0
@@ -62,6 +65,7 @@ spell_ends : (out : SinkSeen) (text : List ℕ) (end : End) → Spells text (Err
 spell_ends out text NoMemory h = refl
 spell_ends out text Done h = absurd h
 spell_ends out text Usage h = absurd h
+spell_ends out text (Schedule at rule) h = absurd h
 spell_ends out text (Source fault) h = absurd h
 spell_ends out text (Rejected number why) h = absurd h
 spell_ends out text (Spent event) h = absurd h
@@ -74,6 +78,7 @@ print_ends : (line : List ℕ) (out : SinkSeen) (end : End) (printed : List ℕ)
 print_ends line out Done printed h = tt
 print_ends line out WriteFault printed h = h.0
 print_ends line out Usage printed h = h
+print_ends line out (Schedule at rule) printed h = h
 print_ends line out (Source fault) printed h = h
 print_ends line out (Rejected number why) printed h = h
 print_ends line out (Spent event) printed h = absurd h

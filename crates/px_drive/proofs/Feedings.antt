@@ -13,7 +13,7 @@ use Rattle.px_replay.specs.States.{IsPartial, IsDerivationText}
 use Rattle.px_replay.specs.Refusals.{FailsAfter}
 use Rattle.px_replay.specs.Standings.{Standing, StandsFor, Fed, Finished}
 use Rattle.px_drive.specs.declared.outcome.End.{End}
-use Rattle.px_drive.specs.declared.outcome.End.TheVariants.{Done, Usage, Source, Rejected, Spent, ReadFault, WriteFault, NoMemory, TooLong, Arguments}
+use Rattle.px_drive.specs.declared.outcome.End.TheVariants.{Done, Usage, Source, Rejected, Schedule, Spent, ReadFault, WriteFault, NoMemory, TooLong, Arguments}
 use Rattle.px_drive.specs.Refusals.{end_of_feeding}
 use Rattle.px_drive.specs.Derivations.{text_of, IsOneLine, BeginsWith, IsRejected, refused, unended, unfinished}
 use Rattle.px_drive.specs.Feeding.{HasFed, Feeds}
@@ -148,6 +148,7 @@ feeds_on P Q text replay (Err e) end one feeds is = subst (λ (x : End). Accepts
     by_end NoMemory h = tt
     by_end Done h = absurd h
     by_end Usage h = absurd h
+    by_end (Schedule at rule) h = absurd h
     by_end (Source fault) h = absurd h
     by_end ReadFault h = absurd h
     by_end WriteFault h = absurd h

@@ -7,9 +7,14 @@ pub mod Chains
 pub mod WordFacts
 pub mod ArgumentFacts
 pub mod EvalEnds
+pub mod RunEnds
+pub mod RunSteps
 pub mod Causes
+pub mod RunCauses
 pub mod TextEnds
 pub mod ReplayEnds
+pub mod RunChances
+pub mod RunFronts
 pub mod ArgumentEnds
 pub mod LineStages
 pub mod CallFacts
@@ -18,4 +23,5 @@ pub mod ConstructorNames
 pub mod ParameterCounts
 pub mod PrintedAnswers
 pub mod Truths
+pub mod RunTruths
 pub mod Completeness

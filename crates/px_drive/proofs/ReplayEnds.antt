@@ -6,7 +6,7 @@ use Rattle.px_drive.specs.declared.outcome.CommandLine.TheVariants.{Replay}
 use Rattle.px_drive.specs.declared.outcome.Which.{Which}
 use Rattle.px_drive.specs.declared.outcome.Which.TheVariants as which
 use Rattle.px_drive.specs.declared.outcome.End.{End}
-use Rattle.px_drive.specs.declared.outcome.End.TheVariants.{Done, Usage, Source, Rejected, Spent, ReadFault, WriteFault, NoMemory, TooLong, Arguments}
+use Rattle.px_drive.specs.declared.outcome.End.TheVariants.{Done, Usage, Source, Rejected, Schedule, Spent, ReadFault, WriteFault, NoMemory, TooLong, Arguments}
 use Rattle.px_drive.specs.Seen.{FilesSeen, SinkSeen}
 use Rattle.px_drive.specs.Messages.{accepted_line}
 use Rattle.px_drive.specs.Ends.{limit_of, ReadsText, Accepts, Prints, AndThen}
@@ -18,13 +18,14 @@ use Rattle.px_drive.proofs.Causes.{Goes, told_is, not_whole}
 use Rattle.px_drive.proofs.TextEnds.{IsChance, unread_ends, program_read}
 
 -- the one refusal of bytes that are rejected
-accepts_ends : OneRejection → (source : List ℕ) (P : Program) → IsSource source P → (bytes : List ℕ) (number : ℕ) (why : Why) (end : End) → IsRejected P bytes number why → Accepts P bytes (Err end) → (end ≡ Rejected number why) ⊎ IsChance end
+pub accepts_ends : OneRejection → (source : List ℕ) (P : Program) → IsSource source P → (bytes : List ℕ) (number : ℕ) (why : Why) (end : End) → IsRejected P bytes number why → Accepts P bytes (Err end) → (end ≡ Rejected number why) ⊎ IsChance end
 accepts_ends one source P is bytes number why (Rejected line reason) rejected h =
     let same = one source P is bytes line number reason why h rejected in
     inl (ap (λ (n : ℕ). Rejected n reason) same.0 ∙ ap (λ (w : Why). Rejected number w) same.1)
 accepts_ends one source P is bytes number why NoMemory rejected h = inr (inr refl)
 accepts_ends one source P is bytes number why Done rejected h = absurd h
 accepts_ends one source P is bytes number why Usage rejected h = absurd h
+accepts_ends one source P is bytes number why (Schedule at rule) rejected h = absurd h
 accepts_ends one source P is bytes number why (Source fault) rejected h = absurd h
 accepts_ends one source P is bytes number why ReadFault rejected h = absurd h
 accepts_ends one source P is bytes number why WriteFault rejected h = absurd h
@@ -54,12 +55,13 @@ refused_is_rejected_law one_source never_both never one files out file derivatio
     either (inr goes) = rejected_ends never one files out file derivation printed text steps P number why end source has_steps rejected goes
 
 -- a told text over its limit is too long, but by a fault or for want of memory
-long_ends : (text : Which) (files : FilesSeen) (name : List ℕ) (end : End) → ReadsText text files name (Err end) → (end ≡ TooLong text) ⊎ IsChance end
+pub long_ends : (text : Which) (files : FilesSeen) (name : List ℕ) (end : End) → ReadsText text files name (Err end) → (end ≡ TooLong text) ⊎ IsChance end
 long_ends text files name (TooLong long) (is, _) = inl (ap TooLong is)
 long_ends text files name ReadFault h = inr (inl refl)
 long_ends text files name NoMemory h = inr (inr refl)
 long_ends text files name Done h = absurd h
 long_ends text files name Usage h = absurd h
+long_ends text files name (Schedule at rule) h = absurd h
 long_ends text files name (Source fault) h = absurd h
 long_ends text files name (Rejected number why) h = absurd h
 long_ends text files name (Spent event) h = absurd h

@@ -2,11 +2,11 @@
 use Rattle.std.proofs.Common.{◌≡◌, ℕ, ◌⊎◌, List, Ok, Err, inl, inr, refl, subst, sym}
 use Rattle.px_terms.specs.declared.program.Program.{Program}
 use Rattle.px_drive.specs.declared.outcome.CommandLine.{CommandLine}
-use Rattle.px_drive.specs.declared.outcome.CommandLine.TheVariants.{Check, Replay, Eval}
+use Rattle.px_drive.specs.declared.outcome.CommandLine.TheVariants.{Check, Replay, Eval, Run}
 use Rattle.px_drive.specs.declared.outcome.Which.{Which}
 use Rattle.px_drive.specs.declared.outcome.Which.TheVariants as which
 use Rattle.px_drive.specs.declared.outcome.End.{End}
-use Rattle.px_drive.specs.declared.outcome.End.TheVariants.{Done, Usage, Source, Rejected, Spent, ReadFault, WriteFault, NoMemory, TooLong, Arguments}
+use Rattle.px_drive.specs.declared.outcome.End.TheVariants.{Done, Usage, Source, Rejected, Schedule, Spent, ReadFault, WriteFault, NoMemory, TooLong, Arguments}
 use Rattle.px_drive.specs.Lines.{program_of}
 use Rattle.px_drive.specs.Seen.{FilesSeen, SinkSeen}
 use Rattle.px_drive.specs.Ends.{limit_of, ReadsText, AndThen, LineEnds}
@@ -26,6 +26,7 @@ unread_ends text files name bytes ReadFault has h = inl refl
 unread_ends text files name bytes NoMemory has h = inr refl
 unread_ends text files name bytes Done has h = absurd h
 unread_ends text files name bytes Usage has h = absurd h
+unread_ends text files name bytes (Schedule at rule) has h = absurd h
 unread_ends text files name bytes (Source fault) has h = absurd h
 unread_ends text files name bytes (Rejected number why) has h = absurd h
 unread_ends text files name bytes (Spent event) has h = absurd h
@@ -38,6 +39,7 @@ refused_ends never_both text P (Source fault) source h = absurd (never_both text
 refused_ends never_both text P NoMemory source h = inr refl
 refused_ends never_both text P Done source h = absurd h
 refused_ends never_both text P Usage source h = absurd h
+refused_ends never_both text P (Schedule at rule) source h = absurd h
 refused_ends never_both text P (Rejected number why) source h = absurd h
 refused_ends never_both text P (Spent event) source h = absurd h
 refused_ends never_both text P (Arguments kind word) source h = absurd h
@@ -61,3 +63,4 @@ pub program_read : OneSource → NeverBoth → (files : FilesSeen) (out : SinkSe
 program_read one_source never_both files out (Check file) printed text P end has source h = from_start one_source never_both files out (Check file) printed text P end has source h
 program_read one_source never_both files out (Replay file derivation) printed text P end has source h = from_start one_source never_both files out (Replay file derivation) printed text P end has source h
 program_read one_source never_both files out (Eval file name words budget) printed text P end has source h = from_start one_source never_both files out (Eval file name words budget) printed text P end has source h
+program_read one_source never_both files out (Run file derivation schedule budget) printed text P end has source h = from_start one_source never_both files out (Run file derivation schedule budget) printed text P end has source h

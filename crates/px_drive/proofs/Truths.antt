@@ -2,15 +2,16 @@
 use Rattle.std.proofs.Common.{◌≡◌, ℕ, ◌⊎◌, List, Option, Some, None, subst, sym, ◌∙◌, inl, inr}
 use Rattle.px_world.specs.Faults.{Rose}
 use Rattle.px_drive.specs.declared.outcome.CommandLine.{CommandLine}
-use Rattle.px_drive.specs.declared.outcome.CommandLine.TheVariants.{Check, Replay, Eval}
+use Rattle.px_drive.specs.declared.outcome.CommandLine.TheVariants.{Check, Replay, Eval, Run}
 use Rattle.px_drive.specs.declared.outcome.End.{End}
-use Rattle.px_drive.specs.declared.outcome.End.TheVariants.{Done, Usage, Source, Rejected, Spent, ReadFault, WriteFault, NoMemory, TooLong, Arguments}
+use Rattle.px_drive.specs.declared.outcome.End.TheVariants.{Done, Usage, Source, Rejected, Schedule, Spent, ReadFault, WriteFault, NoMemory, TooLong, Arguments}
 use Rattle.px_drive.specs.declared.outcome.SourceFault.TheVariants.{Lex, Parse, Scope, Typing, Descent}
 use Rattle.px_drive.specs.declared.outcome.Outcome.{Outcome}
 use Rattle.px_drive.specs.Answers.{Ends, Tells, IsAnswer}
 use Rattle.px_drive.specs.Headline.{Headline, TellsFirstBroken}
 use Rattle.px_drive.specs.Laws.{AcceptedIsTrue, ScopeFaultIsFirst}
 use Rattle.px_drive.specs.Seen.{FilesSeen, SinkSeen}
+use Rattle.px_drive.proofs.RunCauses.{done_is_run_law}
 use Rattle.px_drive.proofs.Causes.{done_is_checked, done_is_replayed, done_is_evaluated, source_is_faulty, read_fault_rose, write_fault_rose}
 
 -- an end that is no fault of writing was allowed
@@ -45,6 +46,11 @@ of_line words files out (Some (Eval file name values budget)) law ends =
       is_value = run.is_value;
       within = run.within;
     }
+of_line words files out (Some (Run file derivation schedule budget)) law ends =
+    let run = done_is_run_law files out file derivation schedule budget ends.1.printed ends.1.allowed in
+    let texts = run.2 in
+    let true_of = law texts.text texts.steps run.0 texts.is_source texts.is_derivation in
+    record { text = texts.text; program = run.0; text_is = texts.text_is; is_source = texts.is_source; holds = true_of.0; itself = true_of.1 }
 
 -- where a line ends Done, its text is a program, and what was accepted is true
 pub headline : (words : List (List ℕ)) (files : FilesSeen) (out err : SinkSeen) (outcome : Outcome) → IsAnswer words files out err outcome → AcceptedIsTrue → outcome.end ≡ Done → Headline files.bytes outcome.line
@@ -61,6 +67,7 @@ broken_of_line words files out line (Source (Typing kind at)) law ends = tt
 broken_of_line words files out line (Source (Descent def call)) law ends = tt
 broken_of_line words files out line Done law ends = tt
 broken_of_line words files out line Usage law ends = tt
+broken_of_line words files out line (Schedule at rule) law ends = tt
 broken_of_line words files out line (Rejected number why) law ends = tt
 broken_of_line words files out line (Spent event) law ends = tt
 broken_of_line words files out line (Arguments kind word) law ends = tt

@@ -5,16 +5,18 @@ use Rattle.std.specs.Io.KnownBytes.{Appends, Consumes}
 use Rattle.px_terms.specs.declared.types.Ty.{Ty}
 use Rattle.px_terms.specs.declared.term.Value.{Value}
 use Rattle.px_terms.specs.declared.program.Program.{Program}
-use Rattle.px_terms.specs.limits.TheConstants.{PROGRAM_BYTES, DERIVATION_BYTES}
+use Rattle.px_terms.specs.limits.TheConstants.{PROGRAM_BYTES, DERIVATION_BYTES, SCHEDULE_BYTES}
 use Rattle.px_machine.specs.declared.runs.Done.{Done as Answer}
+use Rattle.px_schedule.specs.declared.schedule.Schedule.{Schedule as Recorded}
+use Rattle.px_schedule.specs.Schedules.{IsSchedule, IsFault}
 use Rattle.px_world.specs.Known.{Told}
 use Rattle.px_world.specs.Faults.{Rose}
 use Rattle.px_drive.specs.declared.outcome.CommandLine.{CommandLine}
-use Rattle.px_drive.specs.declared.outcome.CommandLine.TheVariants.{Check, Replay, Eval}
+use Rattle.px_drive.specs.declared.outcome.CommandLine.TheVariants.{Check, Replay, Eval, Run}
 use Rattle.px_drive.specs.declared.outcome.Which.{Which}
 use Rattle.px_drive.specs.declared.outcome.Which.TheVariants as which
 use Rattle.px_drive.specs.declared.outcome.End.{End}
-use Rattle.px_drive.specs.declared.outcome.End.TheVariants.{Done, Rejected, Spent, ReadFault, WriteFault, NoMemory, TooLong, Arguments}
+use Rattle.px_drive.specs.declared.outcome.End.TheVariants.{Done, Rejected, Schedule, Spent, ReadFault, WriteFault, NoMemory, TooLong, Arguments}
 use Rattle.px_drive.specs.declared.outcome.ArgumentKind.TheVariants.{BadValue}
 use Rattle.px_drive.specs.declared.arguments.ClosedCall.{ClosedCall}
 use Rattle.px_drive.specs.Messages.{checked_line, accepted_line, evaluated_by}
@@ -22,12 +24,14 @@ use Rattle.px_drive.specs.Seen.{FilesSeen, SinkSeen}
 use Rattle.px_drive.specs.Sources.{Sources}
 use Rattle.px_drive.specs.Derivations.{IsDerivationOf, IsRejected}
 use Rattle.px_drive.specs.Arguments.{AreValuesOf, IsFirstBad, IsCall, IsNoCall, IsValueOfCall}
+use Rattle.px_drive.specs.Recordings.{IsWholeRun, IsSpentRun, IsCutRun}
 use Rattle.px_machine.specs.ValueText.{value_text}
 
 -- how many bytes a text may have
 abbrev pub limit_of : Which → ℕ
 limit_of which.Program = PROGRAM_BYTES
 limit_of which.Derivation = DERIVATION_BYTES
+limit_of which.Schedule = SCHEDULE_BYTES
 
 -- Reading a text whole: its bytes, within the limit; or too long, where more bytes than the limit came; or a fault,
 -- where the count rose and no more bytes than the limit came before.
@@ -77,11 +81,27 @@ Spells text (Ok bytes) = bytes ≡ text
 Spells text (Err NoMemory) = ⊤
 Spells text (Err _) = ⊥
 
+-- the schedule that the bytes are; or the first line that breaks a rule, and the rule
+abbrev pub Schedules : Program → List ℕ → Result Recorded End → Type 0
+Schedules program bytes (Ok schedule) = IsSchedule program bytes schedule
+Schedules program bytes (Err (Schedule line kind)) = IsFault program bytes line kind
+Schedules program bytes (Err NoMemory) = ⊤
+Schedules program bytes (Err _) = ⊥
+
 -- the last stage prints its line: whole where the work is done, and a front of it where the count of the sink rose
 abbrev pub Prints : List ℕ → SinkSeen → End → List ℕ → Type 0
 Prints line out Done printed = printed ≡ line
 Prints line out WriteFault printed = Rose out.before out.after × ((n : ℕ) × (printed ≡ take n line))
 Prints line out _ printed = ⊥
+
+-- the last stage runs the events one after the other, and prints the line of a show at its event: all of them where the work is done; those
+-- before the event that is not within the budget; and a front of them all where the count of the sink rose, or memory ran out
+abbrev pub RunsEvents : Program → Recorded → ℕ → SinkSeen → End → List ℕ → Type 0
+RunsEvents program schedule budget out Done printed = IsWholeRun program schedule budget printed
+RunsEvents program schedule budget out (Spent event) printed = IsSpentRun program schedule budget event printed
+RunsEvents program schedule budget out WriteFault printed = Rose out.before out.after × IsCutRun program schedule printed
+RunsEvents program schedule budget out NoMemory printed = IsCutRun program schedule printed
+RunsEvents program schedule budget out _ printed = ⊥
 
 -- a stage that ends the command before it printed, or that answers a value for the rest
 abbrev pub AndThen : {T : Type 0} → (Result T End → Type 0) → (T → End → List ℕ → Type 0) → End → List ℕ → Type 0
@@ -106,6 +126,14 @@ LineEnds files out (Eval file name values budget) =
     AndThen (Evaluates program call budget) (λ done.
     AndThen (Spells (value_text program.names done.value)) (λ bytes.
     Prints (evaluated_by bytes done.calls) out)))))
+LineEnds files out (Run file derivation schedule budget) =
+    AndThen (ReadsText which.Program files file) (λ text.
+    AndThen (Sources text) (λ program.
+    AndThen (ReadsText which.Derivation files derivation) (λ bytes.
+    AndThen (Accepts program bytes) (λ n.
+    AndThen (ReadsText which.Schedule files schedule) (λ lines.
+    AndThen (Schedules program lines) (λ recorded.
+    RunsEvents program recorded budget out))))))
 
 -- a line ends so, and the sink gained what the line printed
 pub record Runs (files : FilesSeen) (out : SinkSeen) (line : CommandLine) (end : End) : Type 0 where

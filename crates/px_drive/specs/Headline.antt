@@ -9,7 +9,7 @@ use Rattle.px_world.specs.Known.{Told}
 use Rattle.px_scope.specs.declared.ends.ScopeKind.{ScopeKind}
 use Rattle.px_drive.specs.declared.arguments.ClosedCall.{ClosedCall}
 use Rattle.px_drive.specs.declared.outcome.CommandLine.{CommandLine}
-use Rattle.px_drive.specs.declared.outcome.CommandLine.TheVariants.{Check, Replay, Eval}
+use Rattle.px_drive.specs.declared.outcome.CommandLine.TheVariants.{Check, Replay, Eval, Run}
 use Rattle.px_drive.specs.declared.outcome.End.{End}
 use Rattle.px_drive.specs.declared.outcome.End.TheVariants.{Source}
 use Rattle.px_drive.specs.declared.outcome.SourceFault.TheVariants.{Scope}
@@ -54,6 +54,7 @@ Headline known None = ⊥
 Headline known (Some (Check file)) = ReadsProgram known file
 Headline known (Some (Replay file derivation)) = ReadsTrue known file
 Headline known (Some (Eval file name words budget)) = ReadsValue known file name words budget
+Headline known (Some (Run file derivation schedule budget)) = ReadsTrue known file
 
 -- The bytes that were read of a file, which are the file's where these are told, have a first name that breaks a rule of
 -- scope: this rule, at this place.

@@ -18,10 +18,10 @@ use Rattle.px_scope.specs.declared.ends.ScopeKind.{ScopeKind}
 use Rattle.px_drive.specs.declared.arguments.ClosedCall.{ClosedCall}
 use Rattle.px_drive.specs.declared.outcome.ArgumentKind.{ArgumentKind}
 use Rattle.px_drive.specs.declared.outcome.CommandLine.{CommandLine}
-use Rattle.px_drive.specs.declared.outcome.CommandLine.TheVariants.{Check, Replay, Eval}
+use Rattle.px_drive.specs.declared.outcome.CommandLine.TheVariants.{Check, Replay, Eval, Run}
 use Rattle.px_drive.specs.declared.outcome.Which.TheVariants as which
 use Rattle.px_drive.specs.declared.outcome.End.{End}
-use Rattle.px_drive.specs.declared.outcome.End.TheVariants.{Done, Usage, Source, Rejected, Spent, ReadFault, WriteFault, NoMemory, TooLong, Arguments}
+use Rattle.px_drive.specs.declared.outcome.End.TheVariants.{Done, Usage, Source, Rejected, Schedule, Spent, ReadFault, WriteFault, NoMemory, TooLong, Arguments}
 use Rattle.px_drive.specs.declared.outcome.SourceFault.{SourceFault}
 use Rattle.px_drive.specs.declared.outcome.SourceFault.TheVariants.{Scope}
 use Rattle.px_drive.specs.Lines.{line_of, program_of}
@@ -139,6 +139,15 @@ IsNamed (Eval _ _ _ _) WriteFault = ⊤
 IsNamed (Eval _ _ _ _) NoMemory = ⊤
 IsNamed (Eval _ _ _ _) (TooLong which.Program) = ⊤
 IsNamed (Eval _ _ _ _) (Arguments _ _) = ⊤
+IsNamed (Run _ _ _ _) Done = ⊤
+IsNamed (Run _ _ _ _) (Source _) = ⊤
+IsNamed (Run _ _ _ _) (Rejected _ _) = ⊤
+IsNamed (Run _ _ _ _) (Schedule _ _) = ⊤
+IsNamed (Run _ _ _ _) (Spent event) = 0 < event
+IsNamed (Run _ _ _ _) ReadFault = ⊤
+IsNamed (Run _ _ _ _) WriteFault = ⊤
+IsNamed (Run _ _ _ _) NoMemory = ⊤
+IsNamed (Run _ _ _ _) (TooLong _) = ⊤
 IsNamed _ _ = ⊥
 
 -- a line ends in no refusal that isn't named for its command
@@ -228,6 +237,7 @@ abbrev pub EndsEarly : End → Type 0
 EndsEarly Done = ⊥
 EndsEarly Usage = ⊥
 EndsEarly (Rejected _ _) = ⊥
+EndsEarly (Schedule _ _) = ⊥
 EndsEarly (Spent _) = ⊥
 EndsEarly (Arguments _ _) = ⊥
 EndsEarly WriteFault = ⊥
@@ -308,7 +318,13 @@ abbrev pub AboveIsSpent : Type 0
 AboveIsSpent = (files : FilesSeen) (out : SinkSeen) (file name : List ℕ) (words : List (List ℕ)) (budget : ℕ) (printed text : List ℕ) (P : Program) (call : ClosedCall) (v : Value) (calls : ℕ) (end : End) → HasText files which.Program file text
     → IsSource text P → IsCall P name words call → IsValueOfCall P call v calls → budget < calls → LineEnds files out (Eval file name words budget) end printed → (end ≡ Spent 0) ⊎ ((end ≡ ReadFault) ⊎ (end ≡ NoMemory))
 
--- a refusal prints nothing, but for a failed write
+-- a refusal after which the lines stand that were printed before it: of `run` alone, which prints as it goes
+abbrev pub LeavesLines : CommandLine → End → Type 0
+LeavesLines (Run _ _ _ _) (Spent _) = ⊤
+LeavesLines (Run _ _ _ _) NoMemory = ⊤
+LeavesLines _ _ = ⊥
+
+-- a refusal prints nothing, but for a failed write, and where `run` printed lines before it
 abbrev pub RefusalsPrintNothing : Type 0
 RefusalsPrintNothing = (files : FilesSeen) (out : SinkSeen) (line : CommandLine) (printed : List ℕ) (end : End) → LineEnds files out line end printed
-    → end ≢ Done → end ≢ WriteFault → printed ≡ []
+    → end ≢ Done → end ≢ WriteFault → ¬ LeavesLines line end → printed ≡ []

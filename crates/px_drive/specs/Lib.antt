@@ -6,8 +6,12 @@ pub mod Derivations
 pub mod Feeding
 pub mod Refusals
 pub mod Arguments
+pub mod Recordings
+pub mod Printing
 pub mod Ends
 pub mod Answers
 pub mod Laws
 pub mod Completeness
 pub mod Headline
+pub mod RunHeadline
+pub mod RunLaws

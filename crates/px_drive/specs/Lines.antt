@@ -5,7 +5,7 @@ use Rattle.std.specs.Str.{bytes_eq}
 use Rattle.std.specs.Str.Parse.{digits_value}
 use Rattle.px_base.specs.declared.limits.TheConstants.{DEFAULT_CALLS, MOST_CALLS}
 use Rattle.px_drive.specs.declared.outcome.CommandLine.{CommandLine}
-use Rattle.px_drive.specs.declared.outcome.CommandLine.TheVariants.{Check, Replay, Eval}
+use Rattle.px_drive.specs.declared.outcome.CommandLine.TheVariants.{Check, Replay, Eval, Run}
 use Rattle.px_drive.specs.declared.outcome.End.{End}
 use Rattle.px_drive.specs.declared.outcome.End.TheVariants.{Usage, NoMemory}
 
@@ -68,22 +68,33 @@ eval_words calls _ = None
 abbrev pub eval_line : List (List ℕ) → Option CommandLine
 eval_line args = option_and_then (λ (calls : ℕ). eval_words calls (positionals args)) (calls_of (options args))
 
+-- the line of `run F D S`, by these words and the number of calls
+abbrev pub run_words : ℕ → List (List ℕ) → Option CommandLine
+run_words calls (file ∷ derivation ∷ schedule ∷ []) = if is_file file && (is_file derivation && is_file schedule) then Some (Run file derivation schedule calls) else None
+run_words calls _ = None
+
+-- the line of `run F D S [--calls N]`, by the words after `run`
+abbrev pub run_line : List (List ℕ) → Option CommandLine
+run_line args = option_and_then (λ (calls : ℕ). run_words calls (positionals args)) (calls_of (options args))
+
 -- the plain line that these words are, if they are one
 abbrev pub line_of : List (List ℕ) → Option CommandLine
 line_of [] = None
-line_of (command ∷ args) = if bytes_eq command (codes "check") then check_line args else if bytes_eq command (codes "replay") then replay_line args else if bytes_eq command (codes "eval") then eval_line args else None
+line_of (command ∷ args) = if bytes_eq command (codes "check") then check_line args else if bytes_eq command (codes "replay") then replay_line args else if bytes_eq command (codes "eval") then eval_line args else if bytes_eq command (codes "run") then run_line args else None
 
 -- the word of a line that names the file of its program
 abbrev pub program_of : CommandLine → List ℕ
 program_of (Check file) = file
 program_of (Replay file derivation) = file
 program_of (Eval file name values calls) = file
+program_of (Run file derivation schedule calls) = file
 
 -- the words of a line that name files
 abbrev pub files_of : CommandLine → List (List ℕ)
 files_of (Check file) = file ∷ []
 files_of (Replay file derivation) = file ∷ derivation ∷ []
 files_of (Eval file name values calls) = file ∷ []
+files_of (Run file derivation schedule calls) = file ∷ derivation ∷ schedule ∷ []
 
 -- the line is the one that the words are, and Usage comes where they are none
 abbrev pub ReadsLine : Option CommandLine → Result CommandLine End → Type 0

@@ -9,6 +9,8 @@ use Rattle.px_terms.specs.declared.program.Program.{Program}
 use Rattle.px_machine.specs.ValueText.{value_text}
 use Rattle.px_replay.specs.declared.ends.Why.{Why}
 use Rattle.px_replay.specs.declared.ends.Why.TheVariants as reasons
+use Rattle.px_schedule.specs.declared.schedule_end.ScheduleKind.{ScheduleKind}
+use Rattle.px_schedule.specs.declared.schedule_end.ScheduleKind.TheVariants as rules
 use Rattle.px_scope.specs.declared.ends.ScopeKind.{ScopeKind}
 use Rattle.px_scope.specs.declared.ends.ScopeKind.TheVariants.{Unknown, Repeated, Later, WrongPlace}
 use Rattle.px_types.specs.declared.ends.TypeKind.{TypeKind}
@@ -16,7 +18,7 @@ use Rattle.px_types.specs.declared.ends.TypeKind.TheVariants.{Mismatch, Arity, A
 use Rattle.px_drive.specs.declared.outcome.ArgumentKind.{ArgumentKind}
 use Rattle.px_drive.specs.declared.outcome.ArgumentKind.TheVariants.{NoSuchName, NotPlain, Count, BadValue}
 use Rattle.px_drive.specs.declared.outcome.End.{End}
-use Rattle.px_drive.specs.declared.outcome.End.TheVariants.{Done, Usage, Source, Rejected, Spent, ReadFault, WriteFault, NoMemory, TooLong, Arguments}
+use Rattle.px_drive.specs.declared.outcome.End.TheVariants.{Done, Usage, Source, Rejected, Schedule, Spent, ReadFault, WriteFault, NoMemory, TooLong, Arguments}
 use Rattle.px_drive.specs.declared.outcome.SourceFault.{SourceFault}
 use Rattle.px_drive.specs.declared.outcome.SourceFault.TheVariants.{Lex, Parse, Scope, Typing, Descent}
 use Rattle.px_drive.specs.declared.outcome.Which.TheVariants as which
@@ -78,6 +80,19 @@ why_words reasons.End = codes "end"
 abbrev pub rejected_line : ℕ → Why → List ℕ
 rejected_line line why = codes "rejected: line " ++ (decimal line ++ (codes " " ++ (why_words why ++ codes "\n")))
 
+-- a rule of schedules, in words
+abbrev pub schedule_words : ScheduleKind → List ℕ
+schedule_words rules.Form = codes "form"
+schedule_words rules.UnknownReplicaType = codes "unknown-replica-type"
+schedule_words rules.NoSuchReplica = codes "no-such-replica"
+schedule_words rules.NoSuchMessage = codes "no-such-message"
+schedule_words rules.BadValue = codes "bad-value"
+schedule_words rules.TooMany = codes "too-many"
+
+-- the line of a schedule that is refused, with its line feed
+abbrev pub schedule_line : ℕ → ScheduleKind → List ℕ
+schedule_line line kind = codes "schedule: line " ++ (decimal line ++ (codes " " ++ (schedule_words kind ++ codes "\n")))
+
 -- why arguments are refused, in words
 abbrev pub argument_words : ArgumentKind → List ℕ
 argument_words NoSuchName = codes "no-such-name"
@@ -96,15 +111,17 @@ spent_line event = codes "spent: event " ++ (decimal event ++ codes "\n")
 -- the line that an end prints as an error, with its line feed; where the work is done there is none
 abbrev pub message_of : End → List ℕ
 message_of Done = []
-message_of Usage = codes "usage: propel check F | replay F D | eval F NAME V.. [--calls N]\n"
+message_of Usage = codes "usage: propel check F | replay F D | eval F NAME V.. [--calls N] | run F D S [--calls N]\n"
 message_of (Source fault) = source_line fault
 message_of (Rejected line why) = rejected_line line why
+message_of (Schedule line kind) = schedule_line line kind
 message_of (Spent event) = spent_line event
 message_of ReadFault = codes "read fault\n"
 message_of WriteFault = codes "write fault\n"
 message_of NoMemory = codes "no memory\n"
 message_of (TooLong which.Program) = codes "too long: program\n"
 message_of (TooLong which.Derivation) = codes "too long: derivation\n"
+message_of (TooLong which.Schedule) = codes "too long: schedule\n"
 message_of (Arguments kind word) = arguments_line kind word
 
 -- the status that the program ends with
@@ -113,6 +130,7 @@ status_of Done = 0
 status_of Usage = 2
 status_of (Source _) = 3
 status_of (Rejected _ _) = 5
+status_of (Schedule _ _) = 6
 status_of (Spent _) = 7
 status_of ReadFault = 8
 status_of WriteFault = 9

@@ -10,8 +10,10 @@ use Rattle.px_types.specs.declared.ends.TypeEnd.TheVariants as typing
 use Rattle.px_descent.specs.declared.end.NoDescent.{NoDescent}
 use Rattle.px_replay.specs.declared.ends.FeedEnd.{FeedEnd}
 use Rattle.px_replay.specs.declared.ends.FeedEnd.TheVariants as feeding
+use Rattle.px_schedule.specs.declared.schedule_end.ScheduleEnd.{ScheduleEnd}
+use Rattle.px_schedule.specs.declared.schedule_end.ScheduleEnd.TheVariants as scheduling
 use Rattle.px_drive.specs.declared.outcome.End.{End}
-use Rattle.px_drive.specs.declared.outcome.End.TheVariants.{Source, Rejected, NoMemory}
+use Rattle.px_drive.specs.declared.outcome.End.TheVariants.{Source, Rejected, Schedule, NoMemory}
 use Rattle.px_drive.specs.declared.outcome.SourceFault.TheVariants.{Lex, Parse, Scope, Typing, Descent}
 
 -- the end where a text has no tokens
@@ -42,3 +44,8 @@ end_of_descent refusal = Source (Descent refusal.def refusal.call)
 abbrev pub end_of_feeding : FeedEnd → End
 end_of_feeding (feeding.Rejected line why) = Rejected line why
 end_of_feeding feeding.NoMemory = NoMemory
+
+-- the end where a line of a schedule is refused
+abbrev pub end_of_schedule : ScheduleEnd → End
+end_of_schedule (scheduling.Fault line kind) = Schedule line kind
+end_of_schedule scheduling.NoMemory = NoMemory

@@ -6,6 +6,7 @@ ghost use Rattle.px_drive.specs.Seen.{files_seen, sink_seen, KeepsFiles};
 
 use crate::eval::{Question, eval};
 use crate::messages::{print_accepted, print_checked};
+use crate::run::{Recording, run};
 use crate::stages::{accept, read_program, read_text};
 use crate::{CommandLine, End, Which};
 use px_terms::Text;
@@ -58,6 +59,19 @@ fn do_line<F: Files, O: Sink>(
                 calls: *calls,
             };
             eval(alloc, file, question, files, out)
+        }
+        CommandLine::Run {
+            file,
+            derivation,
+            schedule,
+            calls,
+        } => {
+            let recording = Recording {
+                derivation,
+                schedule,
+                calls: *calls,
+            };
+            run(alloc, file, recording, files, out)
         }
     }
 }

@@ -6,16 +6,19 @@ ghost use Rattle.px_drive.specs.Lines.{line_of, files_of};
 ghost use Rattle.px_drive.specs.Seen.{files_seen, sink_seen, KeepsFiles};
 ghost use Rattle.px_drive.specs.Answers.{IsAnswer};
 ghost use Rattle.px_drive.specs.Headline.{Headline, TellsFirstBroken};
+ghost use Rattle.px_drive.specs.RunHeadline.{PrintsJoins, PrintsAgreeing};
 ghost use Rattle.px_drive.specs.Completeness.{IsComplete};
 
 use crate::chain::run_line;
 use crate::laws::{
     accepted_is_true, never_both, never_call_and_none, never_rejected, one_call, one_source,
-    one_value_of_call, scope_fault_is_first,
+    one_value_of_call, scope_fault_is_first, source_is_checked,
 };
 use crate::line::read_line;
 use crate::messages::report;
+use crate::run_laws::{lines_agree, merges_join};
 use crate::{End, Outcome};
+use px_schedule::{never_both as never_schedule_and_fault, one_schedule};
 use px_world::{Files, Sink};
 use std::alloc::Global;
 
@@ -34,8 +37,11 @@ use std::alloc::Global;
 ///
 /// Which bytes a name has and which names may be opened is unchanged.
 ///
-/// Where `replay` is done, every declared property and lemma of the program read holds in the language's meaning, for all values, in every
+/// Where `replay` or `run` is done, every declared property and lemma of the program read holds in the language's meaning, for all values, in every
 /// extension of the program.
+/// Where `run` is done, `out` gained exactly the lines of the schedule's shows: each is what the replica holds and the join of that. Where an
+/// event takes too many calls, it gained exactly the lines before that event; where a write fails or no memory is left, a front of the lines of
+/// so many first events, or nothing. Two lines of a run with the same numbers show the same state, whatever was lost, repeated or reordered.
 /// Where the text read has a fault of scope, its place is the least byte at which a name of the text breaks a rule.
 pub fn drive<F: Files, O: Sink, E: Sink>(
     alloc: Global,
@@ -49,6 +55,8 @@ pub fn drive<F: Files, O: Sink, E: Sink>(
     ensures answer { IsAnswer (map string_bytes words.now.items) (files_seen F.Files files.old files.new)
         (sink_seen O.Sink out.old out.new) (sink_seen E.Sink err.old err.new) result }
     ensures headline { result.end ≡ End.Done → Headline (F.bytes_of files.old) result.line }
+    ensures prints { PrintsJoins (F.bytes_of files.old) (sink_seen O.Sink out.old out.new) result.line result.end }
+    ensures agree { PrintsAgreeing (sink_seen O.Sink out.old out.new) result.line result.end }
     ensures first_broken { TellsFirstBroken (F.bytes_of files.old) result.line result.end }
     // Where no count of faults rose, a line whose work can be done ends Done.
     ensures complete { IsComplete (map string_bytes words.now.items) (files_seen F.Files files.old files.new)
@@ -69,6 +77,11 @@ pub fn drive<F: Files, O: Sink, E: Sink>(
     never_call_and_none();
     one_value_of_call();
     scope_fault_is_first();
+    source_is_checked();
+    one_schedule();
+    never_schedule_and_fault();
+    merges_join();
+    lines_agree();
     answer(alloc, words, files, out, err)
 }
 

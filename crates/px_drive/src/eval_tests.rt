@@ -17,7 +17,8 @@ def both(a: Word): Word { twice(wmax, a) }\ndef swap(p: Pair<Word, Bool>): Pair<
 def seven(): Word { 7 }\nlemma least(a: Word): wmax(a, a) = a\n";
 
 /// The line that is told of words that are no plain line.
-const USAGE: &str = "usage: propel check F | replay F D | eval F NAME V.. [--calls N]\n";
+const USAGE: &str =
+    "usage: propel check F | replay F D | eval F NAME V.. [--calls N] | run F D S [--calls N]\n";
 
 /// Words after the file, by the program, with the status, what is printed and what is told.
 const ROWS: [(&[u8], &[&str], u8, &str, &str); 35] = [

@@ -23,6 +23,12 @@ mod outcome;
 mod refusals;
 #[cfg(test)]
 mod row_tests;
+mod run;
+pub mod run_laws;
+#[cfg(test)]
+mod run_tests;
+#[cfg(test)]
+mod run_texts;
 mod stages;
 #[cfg(test)]
 mod tests;
@@ -31,3 +37,4 @@ pub use command::drive;
 pub use messages::status;
 pub use outcome::{ArgumentKind, CommandLine, End, Outcome, SourceFault, Which};
 pub use px_replay::Why;
+pub use px_schedule::ScheduleKind;

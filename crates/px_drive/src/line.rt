@@ -1,6 +1,6 @@
 //! Which command the words of a command line are.
 ghost use Rattle.std.specs.Prelude.{◌≡◌, ◌<◌, ◌^◌, map, string_bytes, IfOk};
-ghost use Rattle.px_drive.specs.Lines.{line_of, check_line, replay_line, eval_line, is_file, is_option, positionals, options, SplitsAt, calls_of, number_within, ReadsLine};
+ghost use Rattle.px_drive.specs.Lines.{line_of, check_line, replay_line, eval_line, run_line, is_file, is_option, positionals, options, SplitsAt, calls_of, number_within, ReadsLine};
 
 use crate::{CommandLine, End};
 use itoa::Buffer;
@@ -18,6 +18,7 @@ pub(crate) fn read_line(alloc: Global, words: &[String]) -> Result<CommandLine, 
             "check" => read_check(alloc, args),
             "replay" => read_replay(alloc, args),
             "eval" => read_eval(alloc, args),
+            "run" => read_run(alloc, args),
             _ => Err(End::Usage),
         },
         [] => Err(End::Usage),
@@ -68,6 +69,33 @@ fn read_eval(alloc: Global, args: &[String]) -> Result<CommandLine, End>
                 file,
                 name,
                 values,
+                calls,
+            })
+        }
+        _ => Err(End::Usage),
+    }
+}
+
+/// The line of `run F D S [--calls N]`, by the words after `run`.
+fn read_run(alloc: Global, args: &[String]) -> Result<CommandLine, End>
+    ensures { ReadsLine (run_line (map string_bytes args.now)) result }
+{
+    let (words, options) = split_options(args);
+    let Some(calls) = read_calls(options) else {
+        return Err(End::Usage);
+    };
+    match words {
+        [file, derivation, schedule]
+            if names_file(file.as_str())
+                && names_file(derivation.as_str())
+                && names_file(schedule.as_str()) => {
+            let file = copy_word(alloc, file.as_str())?;
+            let derivation = copy_word(alloc, derivation.as_str())?;
+            let schedule = copy_word(alloc, schedule.as_str())?;
+            Ok(CommandLine::Run {
+                file,
+                derivation,
+                schedule,
                 calls,
             })
         }

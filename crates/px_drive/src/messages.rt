@@ -1,20 +1,22 @@
 //! What is printed: the answer of a command that is done, or the one line of its refusal; and the number that the program ends with.
 ghost use Rattle.std.specs.Prelude.{◌≡◌, ◌≤◌, ◌++◌, codes};
 ghost use Rattle.std.specs.Fmt.{decimal};
-ghost use Rattle.px_drive.specs.Messages.{checked_line, accepted_line, scope_words, type_words, why_words, argument_words, source_line, rejected_line, arguments_line, spent_line, evaluated_by, message_of, status_of, bytes_of_all};
+ghost use Rattle.px_drive.specs.Messages.{checked_line, accepted_line, scope_words, type_words, why_words, argument_words, source_line, rejected_line, schedule_words, schedule_line, arguments_line, spent_line, evaluated_by, message_of, status_of, bytes_of_all};
 ghost use Rattle.px_drive.specs.Answers.{Tells};
 ghost use Rattle.px_drive.specs.Seen.{sink_seen, Writes};
 
 use crate::{ArgumentKind, End, Outcome, SourceFault, Which};
 use itoa::Buffer;
 use px_replay::Why;
+use px_schedule::ScheduleKind;
 use px_scope::ScopeKind;
 use px_terms::Program;
 use px_types::TypeKind;
 use px_world::{Sink, WriteFault, write_all};
 
 /// The line of words that are no plain line.
-const USAGE: &[u8] = b"usage: propel check F | replay F D | eval F NAME V.. [--calls N]\n";
+const USAGE: &[u8] =
+    b"usage: propel check F | replay F D | eval F NAME V.. [--calls N] | run F D S [--calls N]\n";
 
 /// The status that the program ends with: 0 where the work is done, and a number of its own for each
 /// kind of refusal.
@@ -26,6 +28,7 @@ pub fn status(outcome: &Outcome) -> u8
         End::Usage => 2,
         End::Source(_) => 3,
         End::Rejected { .. } => 5,
+        End::Schedule { .. } => 6,
         End::Spent { .. } => 7,
         End::ReadFault => 8,
         End::WriteFault => 9,
@@ -45,6 +48,7 @@ fn write_message<E: Sink>(end: End, err: &mut E) -> Result<(), WriteFault>
         End::Usage => write_line(err, USAGE),
         End::Source(fault) => write_source(fault, err),
         End::Rejected { line, why } => write_rejected(line, why, err),
+        End::Schedule { line, kind } => write_schedule_fault(line, kind, err),
         End::Spent { event } => write_spent(event, err),
         End::ReadFault => write_line(err, b"read fault\n"),
         End::WriteFault => write_line(err, b"write fault\n"),
@@ -52,6 +56,7 @@ fn write_message<E: Sink>(end: End, err: &mut E) -> Result<(), WriteFault>
         End::TooLong { text } => match text {
             Which::Program => write_line(err, b"too long: program\n"),
             Which::Derivation => write_line(err, b"too long: derivation\n"),
+            Which::Schedule => write_line(err, b"too long: schedule\n"),
         },
         End::Arguments { kind, word } => write_arguments(kind, word, err),
     }
@@ -128,6 +133,42 @@ fn write_rejected<E: Sink>(line: u64, why: Why, err: &mut E) -> Result<(), Write
             b"\n",
         ],
     )
+}
+
+/// Writes the line of a schedule that is refused.
+fn write_schedule_fault<E: Sink>(
+    line: u64,
+    kind: ScheduleKind,
+    err: &mut E,
+) -> Result<(), WriteFault>
+    ensures writes { Writes (schedule_line line kind) (sink_seen E.Sink err.old err.new) result }
+    ensures later { E.faults err.old ≤ E.faults err.new }
+{
+    let mut number = Buffer::new();
+    write_pieces(
+        err,
+        &[
+            b"schedule: line ",
+            number.format(line).as_bytes(),
+            b" ",
+            rule_of_schedule(kind).as_bytes(),
+            b"\n",
+        ],
+    )
+}
+
+/// A rule of schedules, in words.
+fn rule_of_schedule(kind: ScheduleKind) -> &'static str
+    ensures { result.now ≡ schedule_words kind }
+{
+    match kind {
+        ScheduleKind::Form => "form",
+        ScheduleKind::UnknownReplicaType => "unknown-replica-type",
+        ScheduleKind::NoSuchReplica => "no-such-replica",
+        ScheduleKind::NoSuchMessage => "no-such-message",
+        ScheduleKind::BadValue => "bad-value",
+        ScheduleKind::TooMany => "too-many",
+    }
 }
 
 /// Writes the line of a call that takes too many calls.
@@ -289,7 +330,7 @@ pub(crate) fn print_evaluated<O: Sink>(
 }
 
 /// Writes the bytes of a line.
-fn write_line<S: Sink>(sink: &mut S, line: &[u8]) -> Result<(), WriteFault>
+pub(crate) fn write_line<S: Sink>(sink: &mut S, line: &[u8]) -> Result<(), WriteFault>
     ensures writes { Writes line.now (sink_seen S.Sink sink.old sink.new) result }
     ensures later { S.faults sink.old ≤ S.faults sink.new }
 {

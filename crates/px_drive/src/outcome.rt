@@ -1,5 +1,6 @@
 //! What a command is, and how it ends.
 use px_replay::Why;
+use px_schedule::ScheduleKind;
 use px_scope::ScopeKind;
 use px_terms::Text;
 use px_types::TypeKind;
@@ -23,6 +24,14 @@ pub enum CommandLine {
         file: Text,
         name: Text,
         values: Items<Text>,
+        calls: u64,
+    },
+    /// `run F D S [--calls N]`: replays the derivation in the file D of the program in the file F, and runs the replicas of the schedule
+    /// in the file S, each merge within N calls.
+    Run {
+        file: Text,
+        derivation: Text,
+        schedule: Text,
         calls: u64,
     },
 }
@@ -50,8 +59,10 @@ pub enum SourceFault {
 pub enum Which {
     /// The program's text, the first word after the command.
     Program,
-    /// The derivation's text, the second word after `replay`.
+    /// The derivation's text, the second word after `replay` and after `run`.
     Derivation,
+    /// The schedule's text, the third word after `run`.
+    Schedule,
 }
 
 /// Why the arguments of `eval` were refused; the first cause in this order is told.
@@ -80,7 +91,11 @@ pub enum End {
     /// derivation of the program any more, or has no line feed, or is the one behind the last, where lines are missing; and
     /// this is what is wrong with it.
     Rejected { line: u64, why: Why },
-    /// The call takes more calls than it may make. For `eval` the event is 0.
+    /// The schedule's text was refused: the line of this number, from 1, is the first that breaks a rule, and this is the first rule
+    /// that it breaks.
+    Schedule { line: u64, kind: ScheduleKind },
+    /// The call takes more calls than it may make. For `eval` the event is 0; for `run` it is the number of the event, from 1, whose
+    /// merge it is.
     Spent { event: u64 },
     /// Opening or reading a text failed. The files' count of faults rose.
     ReadFault,

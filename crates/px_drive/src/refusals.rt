@@ -7,6 +7,7 @@ use px_descent::NoDescent;
 use px_lexer::LexEnd;
 use px_parser::ParseEnd;
 use px_replay::FeedEnd;
+use px_schedule::ScheduleEnd;
 use px_scope::ScopeEnd;
 use px_terms::NoMemory;
 use px_types::TypeEnd;
@@ -117,6 +118,19 @@ impl From<FeedEnd> for End {
         match refusal {
             FeedEnd::Rejected { line, why } => End::Rejected { line, why },
             FeedEnd::NoMemory => End::NoMemory,
+        }
+    }
+}
+
+impl From<ScheduleEnd> for End {
+    ghost use Rattle.px_drive.specs.Refusals.{end_of_schedule};
+
+    ghost from_gives = { λ refusal end. end ≡ end_of_schedule refusal };
+
+    fn from(refusal: ScheduleEnd) -> End {
+        match refusal {
+            ScheduleEnd::Fault { line, kind } => End::Schedule { line, kind },
+            ScheduleEnd::NoMemory => End::NoMemory,
         }
     }
 }

@@ -16,7 +16,7 @@ use px_parser::parse;
 use px_replay::{Replay, Why};
 use px_scope::resolve;
 use px_terms::Text;
-use px_terms::limits::{DERIVATION_BYTES, PROGRAM_BYTES};
+use px_terms::limits::{DERIVATION_BYTES, PROGRAM_BYTES, SCHEDULE_BYTES};
 use px_types::check_types;
 use px_world::{Bytes, Files, ReadEnd, read_all};
 use std::alloc::Global;
@@ -28,6 +28,7 @@ fn limit(text: Which) -> usize
     match text {
         Which::Program => PROGRAM_BYTES,
         Which::Derivation => DERIVATION_BYTES,
+        Which::Schedule => SCHEDULE_BYTES,
     }
 }
 

@@ -121,13 +121,14 @@ fn text_of(alloc: Global, lines: &[&[u8]]) -> Result<Bytes, Fail> {
     Ok(text)
 }
 
-/// A call of `drive` over a program named `p` and a derivation named `d`, in pieces of so many bytes, at least one. The
+/// A call of `drive` over a program named `p`, a derivation named `d` and a schedule named `s`, in pieces of so many bytes, at least one. The
 /// listed calls of the files and writes of the output and of the errors fail.
 #[derive(Clone, Copy)]
 pub(crate) struct Call<'a> {
     pub(crate) words: &'a [&'a str],
     pub(crate) program: &'a [u8],
     pub(crate) derivation: &'a [u8],
+    pub(crate) schedule: &'a [u8],
     pub(crate) piece: usize,
     pub(crate) failing_calls: &'a [u64],
     pub(crate) failing_writes: &'a [u64],
@@ -139,6 +140,7 @@ pub(crate) const REPLAY: Call<'static> = Call {
     words: &["replay", "p", "d"],
     program: OR,
     derivation: WHOLE,
+    schedule: b"",
     piece: 4096,
     failing_calls: &[],
     failing_writes: &[],
@@ -150,6 +152,7 @@ pub(crate) const CHECK: Call<'static> = Call {
     words: &["check", "p"],
     program: OR,
     derivation: b"",
+    schedule: b"",
     piece: 4096,
     failing_calls: &[],
     failing_writes: &[],
@@ -370,6 +373,7 @@ pub(crate) fn expect(
     let mut files = MemoryFiles::new(alloc, call.failing_calls, piece)?;
     files.add("p", call.program)?;
     files.add("d", call.derivation)?;
+    files.add("s", call.schedule)?;
     let mut out = MemorySink::new(alloc, call.failing_writes, piece)?;
     let mut err = MemorySink::new(alloc, call.failing_errors, piece)?;
     let outcome = drive(alloc, &words, &mut files, &mut out, &mut err);
@@ -386,7 +390,8 @@ fn each_call_has_its_end(rt: HostRuntime) -> Result<(), Fail> {
     }
     for words in OTHER_WORDS {
         let call = Call { words, ..REPLAY };
-        let usage = "usage: propel check F | replay F D | eval F NAME V.. [--calls N]\n";
+        let usage =
+            "usage: propel check F | replay F D | eval F NAME V.. [--calls N] | run F D S [--calls N]\n";
         expect(&rt, rt.alloc(), &call, 2, "", usage)?;
     }
     for (program, line) in REFUSED {
@@ -603,7 +608,10 @@ fn the_line_that_was_read_is_kept(rt: HostRuntime) -> Result<(), Fail> {
         Some(CommandLine::Replay { file, derivation }) => {
             file.as_str() == "x" && derivation.as_str() == "y"
         }
-        Some(CommandLine::Check { .. }) | Some(CommandLine::Eval { .. }) | None => false,
+        Some(CommandLine::Check { .. })
+        | Some(CommandLine::Eval { .. })
+        | Some(CommandLine::Run { .. })
+        | None => false,
     };
     assert!(rt; kept);
     Ok(())

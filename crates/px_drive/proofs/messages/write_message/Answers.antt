@@ -23,3 +23,9 @@ returns-in-Spent-clause-writes g c = rw c.in-Spent.is c.write_spent.ensures.writ
 
 pub returns-in-Arguments-clause-writes : goal.returns-in-Arguments-clause-writes
 returns-in-Arguments-clause-writes g c = rw c.in-Arguments.is c.write_arguments.ensures.writes
+
+pub returns-in-Schedule-clause-writes : goal.returns-in-Schedule-clause-writes
+returns-in-Schedule-clause-writes g c = rw c.in-Schedule.is c.write_schedule_fault.ensures.writes
+
+pub returns-in-Schedule-text-clause-writes : goal.returns-in-Schedule-text-clause-writes
+returns-in-Schedule-text-clause-writes g c = rw (c.in-TooLong.is, c.in-Schedule-text.is) c.write_line-in-Schedule-text.ensures.writes
