@@ -1,16 +1,16 @@
 //! `run`: its words, its schedules, what its events print, and how it ends.
-use crate::run_texts::{MAPS, MAPS_SHOWN, SETS, SETS_SHOWN};
+use crate::run_texts::{MAPS, MAPS_SHOWN, MAPS_SHOWN_ON, SETS, SETS_SHOWN, SETS_SHOWN_ON};
 use crate::tests::{Call, REPLAY, expect};
 use px_world::Bytes;
 use std::alloc::Global;
 use std::process::Abort;
 use std::test::Fail;
 
-/// The run of a schedule of sets.
+/// The run of a schedule of sets, or of maps. Where no derivation is given, it is that of the program.
 const RUN: Call<'static> = Call {
     words: &["run", "p", "d", "s"],
     program: SETS,
-    derivation: SETS_SHOWN,
+    derivation: b"",
     ..REPLAY
 };
 
@@ -33,7 +33,7 @@ const SENT: &[u8] =
 const SENT_SHOWN: &str = "1 [0] Cons(1, Nil)\n0 [0,1] Cons(1, Cons(2, Nil))\n";
 
 /// Calls over schedules, each with its status, its output and its errors.
-const RUNS: [(Call<'static>, u8, &str, &str); 12] = [
+const RUNS: [(Call<'static>, u8, &str, &str); 6] = [
     (
         Call {
             schedule: ASTRAY,
@@ -85,7 +85,6 @@ const RUNS: [(Call<'static>, u8, &str, &str); 12] = [
     (
         Call {
             program: MAPS,
-            derivation: MAPS_SHOWN,
             schedule: b"replicas g 2\nupdate 0 Bind(0, 3, Empty)\nupdate 1 Bind(1, 4, Empty)\nsend 0\ndeliver 0 1\nshow 1\n",
             ..RUN
         },
@@ -93,11 +92,14 @@ const RUNS: [(Call<'static>, u8, &str, &str); 12] = [
         "1 [0,1] Bind(0, 3, Bind(1, 4, Empty))\n",
         "",
     ),
+];
+
+/// Further calls over schedules.
+const MORE_RUNS: [(Call<'static>, u8, &str, &str); 6] = [
     // The larger of two values of one word.
     (
         Call {
             program: MAPS,
-            derivation: MAPS_SHOWN,
             schedule: b"replicas g 2\nupdate 0 Bind(7, 3, Empty)\nupdate 1 Bind(7, 4, Empty)\nsend 0\nsend 1\ndeliver 0 1\ndeliver 1 0\n\
 deliver 0 0\nshow 0\nshow 1\n",
             ..RUN
@@ -234,10 +236,43 @@ const SCHEDULES: [(&[u8], &str, &str); 24] = [
     ),
 ];
 
+/// The derivation of the program of maps, or else that of the program of sets.
+fn derivation_of(alloc: Global, program: &[u8]) -> Result<Bytes, Fail> {
+    let (front, rest) = if program == MAPS {
+        (MAPS_SHOWN, MAPS_SHOWN_ON)
+    } else {
+        (SETS_SHOWN, SETS_SHOWN_ON)
+    };
+    let mut text = Bytes::new(alloc);
+    text.extend_from_slice(front)?;
+    text.extend_from_slice(rest)?;
+    Ok(text)
+}
+
+/// Makes the call, with the derivation of its program where it has none, and compares the status and both outputs.
+fn expect_run(
+    rt: &impl Abort,
+    alloc: Global,
+    call: &Call,
+    wanted: u8,
+    printed: &str,
+    told: &str,
+) -> Result<(), Fail> {
+    let derivation = derivation_of(alloc, call.program)?;
+    let mut whole = *call;
+    if call.derivation.is_empty() {
+        whole.derivation = derivation.as_slice();
+    }
+    expect(rt, alloc, &whole, wanted, printed, told)
+}
+
 #[test]
 fn each_run_has_its_end(rt: HostRuntime) -> Result<(), Fail> {
     for (call, wanted, printed, told) in RUNS {
-        expect(&rt, rt.alloc(), &call, wanted, printed, told)?;
+        expect_run(&rt, rt.alloc(), &call, wanted, printed, told)?;
+    }
+    for (call, wanted, printed, told) in MORE_RUNS {
+        expect_run(&rt, rt.alloc(), &call, wanted, printed, told)?;
     }
     Ok(())
 }
@@ -246,7 +281,7 @@ fn each_run_has_its_end(rt: HostRuntime) -> Result<(), Fail> {
 fn each_schedule_has_its_lines_or_its_fault(rt: HostRuntime) -> Result<(), Fail> {
     for (schedule, printed, told) in SCHEDULES {
         let wanted = if told.is_empty() { 0 } else { 6 };
-        expect(
+        expect_run(
             &rt,
             rt.alloc(),
             &Call { schedule, ..RUN },
@@ -276,7 +311,7 @@ fn expect_silent(
     wanted: u8,
     told: &str,
 ) -> Result<(), Fail> {
-    expect(rt, alloc, &Call { schedule, ..RUN }, wanted, "", told)
+    expect_run(rt, alloc, &Call { schedule, ..RUN }, wanted, "", told)
 }
 
 #[test]
@@ -301,8 +336,11 @@ fn limits_of_schedules_are_kept(rt: HostRuntime) -> Result<(), Fail> {
 fn each_write_of_a_run_may_fail(rt: HostRuntime) -> Result<(), Fail> {
     let alloc = rt.alloc();
     // A line is one write; in pieces of one byte each byte is one.
-    for (piece, first, whole) in [(4096, 19, 2), (1, 1, SENT_SHOWN.len())] {
-        for count in 0..whole {
+    for (piece, first, counts, whole) in [
+        (4096, 19, [0, 1, 1, 1], 2),
+        (1, 1, [0, 1, 19, 40], SENT_SHOWN.len()),
+    ] {
+        for count in counts {
             let printed = SENT_SHOWN.split_at(count * first).0;
             let call = Call {
                 schedule: SENT,
@@ -310,7 +348,7 @@ fn each_write_of_a_run_may_fail(rt: HostRuntime) -> Result<(), Fail> {
                 failing_writes: &[count as u64],
                 ..RUN
             };
-            expect(&rt, alloc, &call, 9, printed, "write fault\n")?;
+            expect_run(&rt, alloc, &call, 9, printed, "write fault\n")?;
         }
         let call = Call {
             schedule: SENT,
@@ -318,7 +356,7 @@ fn each_write_of_a_run_may_fail(rt: HostRuntime) -> Result<(), Fail> {
             failing_writes: &[whole as u64],
             ..RUN
         };
-        expect(&rt, alloc, &call, 0, SENT_SHOWN, "")?;
+        expect_run(&rt, alloc, &call, 0, SENT_SHOWN, "")?;
     }
     Ok(())
 }
@@ -333,12 +371,12 @@ fn each_read_of_a_run_may_fail(rt: HostRuntime) -> Result<(), Fail> {
             failing_calls: &[count],
             ..RUN
         };
-        expect(&rt, alloc, &call, 8, "", "read fault\n")?;
+        expect_run(&rt, alloc, &call, 8, "", "read fault\n")?;
     }
     let call = Call {
         schedule: SENT,
         failing_calls: &[11],
         ..RUN
     };
-    expect(&rt, alloc, &call, 0, SENT_SHOWN, "")
+    expect_run(&rt, alloc, &call, 0, SENT_SHOWN, "")
 }

@@ -6,7 +6,7 @@ pub(crate) const SETS: &[u8] =
 Cons(x, xs) => match b {\nNil => a,\nCons(y, ys) => match wle(x, y) {\nTrue => match wle(y, x) {\nTrue => Cons<Word>(x, union(xs, ys)),\n\
 False => Cons<Word>(x, union(xs, b))\n},\nFalse => Cons<Word>(y, union(a, ys))\n}\n}\n}\n}\nreplica s: List<Word> from Nil<Word> by union\n";
 
-/// The derivation that the union of sets is commutative, idempotent and associative.
+/// The front of the derivation that the union of sets is commutative, idempotent and associative.
 pub(crate) const SETS_SHOWN: &[u8] =
     b"goal 0 on 0 1\ncase 0\nstep a0l / unfold\nstep a0l / select\ncase 1\nstep a0r / unfold\nstep a0r / select\nsame 0\nstep a0r / unfold\n\
 step a0r / select\nstep a0r / select\nsame 0\ncase 1\nstep a0l / unfold\nstep a0l / select\nstep a0l / select\nstep a0r / unfold\nstep a0r / select\n\
@@ -51,8 +51,11 @@ step a0r /1/0/0 fact 2 lr\nstep a0r /1/0 select\nstep a0r /1/0/0 fact 1 lr\nstep
 step a0l / fact 2 lr\nsame 0\nstep a0l / fact 5 lr\nsame 0\nstep f6l / fact 3 lr\nclash 6\nsplit wle($7,$3)\nnote wle.conn [] [] [$7,$3]\n\
 step a0l / fact 4 lr\nsame 0\nstep f3l / fact 5 lr\nstep a0l / unfold\nstep a0l / select\nstep a0l / select\nstep a0l /0 fact 5 lr\n\
 step a0l / select\nstep a0l /0 fact 4 lr\nstep a0l / select\nsplit wle($5,$7)\nnote wle.conn [] [] [$5,$7]\nstep a0l / fact 6 lr\nsame 0\n\
-step a0r /1 unfold\nstep a0r /1 select\nstep a0r /1 select\nstep a0r /1/0 fact 6 lr\nstep a0r /1 select\nstep a0r / unfold\nstep a0r / select\n\
-step a0r / select\nstep a0r /0 fact 5 lr\nstep a0r / select\nstep a0r /0 fact 4 lr\nstep a0r / select\nhyp [$4,Cons<Word>($5,$6),Cons<Word>($7,$8)]\n\
+step a0r /1 unfold\nstep a0r /1 select\nstep a0r /1 select\nstep a0r /1/0 fact 6 lr\nstep a0r /1 select\nstep a0r / unfold\nstep a0r / select\n";
+
+/// The rest of that derivation.
+pub(crate) const SETS_SHOWN_ON: &[u8] =
+    b"step a0r / select\nstep a0r /0 fact 5 lr\nstep a0r / select\nstep a0r /0 fact 4 lr\nstep a0r / select\nhyp [$4,Cons<Word>($5,$6),Cons<Word>($7,$8)]\n\
 step a0l /1 fact 8 lr\nstep a0l /1/1 unfold\nstep a0l /1/1 select\nstep a0l /1/1 select\nstep a0l /1/1/0 fact 6 lr\nstep a0l /1/1 select\nsame 0\n\
 split wle($7,$5)\nnote wle.conn [] [] [$7,$5]\nstep a0l / fact 7 lr\nsame 0\nstep f6l / fact 8 lr\nstep a0r /1 unfold\nstep a0r /1 select\n\
 step a0r /1 select\nstep a0r /1/0 fact 8 lr\nstep a0r /1 select\nstep a0r /1/0 fact 7 lr\nstep a0r /1 select\nstep a0r / unfold\nstep a0r / select\n\
@@ -107,7 +110,7 @@ True => Bind<V>(x, f(u, v), join<V>(f, xs, ys)),\nFalse => Bind<V>(x, u, join<V>
 }\nlemma both(a: Map<Word>, b: Map<Word>): join<Word>(wmax, a, b) = join<Word>(wmax, b, a)\n\
 replica g: Map<Word> from Empty<Word> by join<Word>(wmax)\n";
 
-/// The derivation that the join of maps is commutative, idempotent and associative where that of values is.
+/// The front of the derivation that the join of maps is commutative, idempotent and associative where that of values is.
 pub(crate) const MAPS_SHOWN: &[u8] =
     b"goal 0 on 0 1\nsplit wle($0,$1)\nnote wle.conn [] [] [$0,$1]\nstep a0l / fact 0 lr\nsame 0\nstep a0l / unfold\nstep a0l /0 fact 0 lr\n\
 step a0l / select\nstep a0r / unfold\nstep a0r /0 fact 1 lr\nstep a0r / select\nsame 0\nstep a0l / unfold\nstep a0l /0 fact 0 lr\nstep a0l / select\n\
@@ -164,8 +167,11 @@ step a0r / select\nstep a0r / select\nstep a0r /0 fact 0 lr\nstep a0r / select\n
 split wle($6,$3)\nnote wle.conn [] [] [$6,$3]\nstep a0l / fact 1 lr\nsame 0\nstep f0l / fact 2 lr\nstep a0l /0 unfold\nstep a0l /0 select\n\
 step a0l /0 select\nstep a0l /0/0 fact 2 lr\nstep a0l /0 select\nstep a0l /0/0 fact 1 lr\nstep a0l /0 select\ncase 2\nstep a0l / unfold\n\
 step a0l / select\nstep a0l / select\nstep a0r /1 unfold\nstep a0r /1 select\nstep a0r /1 select\nstep a0r / unfold\nstep a0r / select\n\
-step a0r / select\nstep a0r /0 fact 2 lr\nstep a0r / select\nstep a0r /0 fact 1 lr\nstep a0r / select\nsame 0\nsplit wle($3,$9)\n\
-note wle.conn [] [] [$3,$9]\nstep a0l / fact 3 lr\nsame 0\nstep a0l / unfold\nstep a0l / select\nstep a0l / select\nstep a0l /0 fact 3 lr\n\
+step a0r / select\nstep a0r /0 fact 2 lr\nstep a0r / select\nstep a0r /0 fact 1 lr\nstep a0r / select\nsame 0\nsplit wle($3,$9)\n";
+
+/// The rest of that derivation.
+pub(crate) const MAPS_SHOWN_ON: &[u8] =
+    b"note wle.conn [] [] [$3,$9]\nstep a0l / fact 3 lr\nsame 0\nstep a0l / unfold\nstep a0l / select\nstep a0l / select\nstep a0l /0 fact 3 lr\n\
 step a0l / select\nsplit wle($6,$9)\nnote wle.conn [] [] [$6,$9]\nstep a0l / fact 5 lr\nsame 0\nstep a0r /1 unfold\nstep a0r /1 select\n\
 step a0r /1 select\nstep a0r /1/0 fact 5 lr\nstep a0r /1 select\nstep a0r / unfold\nstep a0r / select\nstep a0r / select\nstep a0r /0 fact 3 lr\n\
 step a0r / select\nhyp [Bind<'0>($3,$4,$5),Bind<'0>($6,$7,$8),$11]\nstep a0r /2 fact 7 rl\nstep a0r /2/0 unfold\nstep a0r /2/0 select\n\
