@@ -259,10 +259,13 @@ fn expect_run(
     told: &str,
 ) -> Result<(), Fail> {
     let derivation = derivation_of(alloc, call.program)?;
-    let mut whole = *call;
-    if call.derivation.is_empty() {
-        whole.derivation = derivation.as_slice();
-    }
+    let given = call.derivation;
+    let shown = derivation.as_slice();
+    let derivation = if given.is_empty() { shown } else { given };
+    let whole = Call {
+        derivation,
+        ..*call
+    };
     expect(rt, alloc, &whole, wanted, printed, told)
 }
 
