@@ -48,7 +48,7 @@ counts_more p (y ∷ xs) (suc i) x e =
     sums a b c d e f one two three = omega (arith, one, two, three)
 
 -- at a later place no fewer are counted
-counts_rise : (p : Event → Bool) (xs : List Event) (i j : ℕ) → i ≤ j → count_by p (take i xs) ≤ count_by p (take j xs)
+pub counts_rise : (p : Event → Bool) (xs : List Event) (i j : ℕ) → i ≤ j → count_by p (take i xs) ≤ count_by p (take j xs)
 counts_rise p [] zero j le = omega arith
 counts_rise p [] (suc i) zero le = absurd (omega arith)
 counts_rise p [] (suc i) (suc j) le = omega arith
@@ -76,12 +76,12 @@ adds_nothing : (X Is More : Type 0) → (More → ⊥) → X ↔ (Is ⊎ More) �
 adds_nothing X Is More never same = (λ x. elim (same.0 x) [ inl h ↦ h | inr h ↦ absurd (never h) ], λ h. same.1 (inl h))
 
 -- What is known of the program and the declaration that a world runs.
-record Known (P : Program) (R : ReplicaDef) (w : Standing) : Type 0 where
-  checked : IsChecked P
-  founded : IsWellFounded P
-  typed : IsTypedReplica P R
-  declared : slice_get P.replicas w.declaration ≡ Some R
-  replicas : AreSound P R w.updates w.replicas
+pub record Known (P : Program) (R : ReplicaDef) (w : Standing) : Type 0 where
+  pub checked : IsChecked P
+  pub founded : IsWellFounded P
+  pub typed : IsTypedReplica P R
+  pub declared : slice_get P.replicas w.declaration ≡ Some R
+  pub replicas : AreSound P R w.updates w.replicas
 
 known : (P : Program) (R : ReplicaDef) (w : Standing) → Runs w P R → IsFounded w → Known P R w
 known P R w runs it = subst (λ (Q : Program). (S : ReplicaDef) → slice_get Q.replicas w.declaration ≡ Some S → Known Q S w) runs.program base R runs.declared
@@ -306,7 +306,7 @@ module _ (P : Program) (R : ReplicaDef) (count : ℕ) (events : List Event) (i :
         let here : IsAnswer P R events i (Some (record { replica = r; numbers = old.numbers; value = old.state })) = record { stands = at; state = stands.replicas r old is_old } in
         subst (IsAnswer P R events i) (sym shown) here
 
-    goes_on_so : (e : Event) (budget : ℕ) (new : Standing) (result : Result (Option Shown) RunEnd) → slice_get events i ≡ Some e → Takes w P R e budget new result →
+    pub goes_on_so : (e : Event) (budget : ℕ) (new : Standing) (result : Result (Option Shown) RunEnd) → slice_get events i ≡ Some e → Takes w P R e budget new result →
         GoesOn P R count events i budget new result
     goes_on_so e budget new (Ok answer) at took = (
       stands_next e took.calls new answer at took.happens,

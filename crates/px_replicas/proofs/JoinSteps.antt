@@ -51,7 +51,7 @@ module _ (P : Program) (R : ReplicaDef) (founded : IsWellFounded P) (typed : IsT
       let there : IsMerged P R a y next.value = order.assoc P R founded typed joins a f c x y next.value da df dc front n_merged next.is in
       more is next.is (merged_in events values a y next.value b v ns da dy there rest all)
 
-  gathered_typed : (events : List Event) → ((i : ℕ) (e : Event) → slice_get events i ≡ Some e → HasState P R e) → (a v : Value) (ns : List ℕ) → IsIn P R.state a →
+  pub gathered_typed : (events : List Event) → ((i : ℕ) (e : Event) → slice_get events i ≡ Some e → HasState P R e) → (a v : Value) (ns : List ℕ) → IsIn P R.state a →
       Gathers P R events a ns v → IsIn P R.state v
   gathered_typed events values a v [] da (done e) = subst (IsIn P R.state) (sym e) da
   gathered_typed events values a v (n ∷ ns) da (more {b = c} {v = y} is n_merged rest) =

@@ -20,3 +20,4 @@ pub mod JoinSteps
 pub mod GoingOn
 pub mod WorldSteps
 pub mod StartSteps
+pub mod LinesExist

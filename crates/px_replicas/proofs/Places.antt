@@ -15,7 +15,7 @@ pub counted : (test : Event → Bool) (x : Event) (xs : List Event) → count_by
 counted test x xs = sum_by-cons (λ (e : Event). cond (test e) 1 0) x xs
 
 -- what the test is true of counts for all places behind it
-counts_later : (test : Event → Bool) (events : List Event) (p q : ℕ) (e : Event) → slice_get events p ≡ Some e → test e ≡ true → p < q →
+pub counts_later : (test : Event → Bool) (events : List Event) (p q : ℕ) (e : Event) → slice_get events p ≡ Some e → test e ≡ true → p < q →
     count_by test (take p events) < count_by test (take q events)
 counts_later test [] p q e at is lt = absurd cc
 counts_later test (x ∷ xs) p zero e at is lt = absurd (omega arith)

@@ -79,7 +79,7 @@ takes one other both left right lefts rights x m is behind_left behind_right ris
   ];
 }
 
-above_all : (x y : ℕ) (ys : List ℕ) → Rises (y ∷ ys) → x < y → (n : ℕ) → In (y ∷ ys) n → x < n
+pub above_all : (x y : ℕ) (ys : List ℕ) → Rises (y ∷ ys) → x < y → (n : ℕ) → In (y ∷ ys) n → x < n
 above_all x y ys h lt n (inl e) = omega arith
 above_all x y ys h lt n (inr there) = let above : y < n = h.0 n there in omega arith
 

@@ -92,3 +92,15 @@ abbrev pub NextFits : Type 0
 NextFits =
     (P : Program) (R : ReplicaDef) (count : ℕ) (events : List Event) (i : ℕ) (w : Standing) (e : Event) → StandsFor P R count events i w → MayHappen P R count events → length events ≤ EVENTS →
     slice_get events i ≡ Some e → Fits w e × HasState P R e
+
+-- where the merge joins, there are the lines of so many first events of a schedule that may happen
+abbrev pub LinesExist : Type 0
+LinesExist =
+    (P : Program) (R : ReplicaDef) (declaration count : ℕ) → IsChecked P → slice_get P.replicas declaration ≡ Some R → MergeJoins P R →
+    (events : List Event) → MayHappen P R count events → (i : ℕ) → i ≤ length events → (text : List ℕ) × AreLines P R events i text
+
+-- where the merge joins, each replica has a state after so many first events of a schedule that may happen
+abbrev pub StatesExist : Type 0
+StatesExist =
+    (P : Program) (R : ReplicaDef) (declaration count : ℕ) → IsChecked P → slice_get P.replicas declaration ≡ Some R → MergeJoins P R →
+    (events : List Event) → MayHappen P R count events → (i : ℕ) → i ≤ length events → (r : ℕ) → r < count → (numbers : List ℕ) × (v : Value) × IsState P R events i r numbers v

@@ -1,5 +1,5 @@
 //! What the definitions say of every schedule, as functions whose contracts are these laws.
-ghost use Rattle.px_replicas.specs.Laws.{HeldByCases, JoinOfASet, OneState, SameHeldSameState, OneNeed, OneOutput, LinesGoOn, DeclaredMergesJoin, SchedulesMayHappen, NextFits};
+ghost use Rattle.px_replicas.specs.Laws.{HeldByCases, JoinOfASet, OneState, SameHeldSameState, OneNeed, OneOutput, LinesGoOn, DeclaredMergesJoin, SchedulesMayHappen, NextFits, LinesExist, StatesExist};
 
 use px_totality::{each_call_has_value, each_term_has_value};
 
@@ -57,3 +57,19 @@ pub fn schedules_may_happen()
 pub fn next_fits()
     ensures { NextFits }
 {}
+
+/// Where the merge joins, a schedule that may happen has its lines.
+pub fn lines_exist()
+    ensures { LinesExist }
+{
+    each_call_has_value();
+    each_term_has_value();
+}
+
+/// Where the merge joins, each replica of a schedule that may happen has a state, after each of its events.
+pub fn states_exist()
+    ensures { StatesExist }
+{
+    each_call_has_value();
+    each_term_has_value();
+}

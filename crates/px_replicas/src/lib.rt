@@ -14,8 +14,8 @@ mod versions;
 mod world;
 
 pub use laws::{
-    declared_merges_join, held_by_cases, join_of_a_set, lines_go_on, next_fits, one_need,
-    one_output, one_state, same_held_same_state, schedules_may_happen,
+    declared_merges_join, held_by_cases, join_of_a_set, lines_exist, lines_go_on, next_fits,
+    one_need, one_output, one_state, same_held_same_state, schedules_may_happen, states_exist,
 };
 pub use shown::Shown;
 pub use version::Version;
