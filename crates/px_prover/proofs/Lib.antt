@@ -6,3 +6,7 @@ mod OneSettling
 mod OneBlocker
 mod MoreSplits
 mod Examples
+mod LeafLemmas
+mod SizeLemmas
+mod RisingLemmas
+mod NoneSoFar

@@ -10,3 +10,4 @@ pub mod Splitting
 pub mod Plain
 pub mod Answers
 pub mod Laws
+pub mod Leaves

@@ -3,9 +3,14 @@
 //! in `specs/`, and none of them speaks of the search. Which derivations there are, is left to `px_terms`.
 #![tactic(auto)]
 
+mod ended;
 mod ends;
+mod frames;
+mod instances;
 mod laws;
+mod leaf_pairs;
 mod limits;
+mod spots;
 
 pub use ends::ProveEnd;
 pub use laws::{
