@@ -69,8 +69,8 @@ module _ (path : List ℕ) (ss ts : List Term) (most i : ℕ) (s t : Term) (with
       let parts = first_and_others (at_front rest.0 rest.1) in
       let more : most - length found < length parts.0 = above parts.0 (subst (λ (p : List ℕ). AreLeafPairs p s t parts.0) (sym place) parts.2) in
       let whole : length leaves ≡ length found + (length parts.0 + length parts.1) =
-          ap (λ (ls : List LeafPair). length ls) (rest.2 ∙ ap (λ (ls : List LeafPair). map seen_leaf found ++ ls) parts.4) ∙
-          (length-append (map seen_leaf found) (parts.0 ++ parts.1) ∙ (λ k. (length-map found seen_leaf k) + (length-append parts.0 parts.1 k))) in
+      ap (λ (ls : List LeafPair). length ls) (rest.2 ∙ ap (λ (ls : List LeafPair). map seen_leaf found ++ ls) parts.4) ∙
+      (length-append (map seen_leaf found) (parts.0 ++ parts.1) ∙ (λ k. (length-map found seen_leaf k) + (length-append parts.0 parts.1 k))) in
       omega (arith, more, whole)
 
 -- all pairs of fields
@@ -78,7 +78,7 @@ pub so_far_end : (path : List ℕ) (ss ts : List Term) (most i : ℕ) (found : L
     AreLeafPairsOfFields path 0 ss ts (map seen_leaf found) × (length found ≤ most)
 so_far_end path ss ts most i found over even before =
     let none : AreLeafPairsOfFields path i (drop i ss) (drop i ts) [] =
-        subst (λ (xs : List Term). AreLeafPairsOfFields path i xs (drop i ts) []) (sym (drop_all i ss over)) (subst (λ (ys : List Term). AreLeafPairsOfFields path i [] ys []) (sym (drop_all i ts (subst (λ (n : ℕ). n ≤ i) even over))) no_field) in
+    subst (λ (xs : List Term). AreLeafPairsOfFields path i xs (drop i ts) []) (sym (drop_all i ss over)) (subst (λ (ys : List Term). AreLeafPairsOfFields path i [] ys []) (sym (drop_all i ts (subst (λ (n : ℕ). n ≤ i) even over))) no_field) in
     (subst (AreLeafPairsOfFields path 0 ss ts) (append-nil (map seen_leaf found)) (before.makes [] none), before.few)
 
 -- fields are in pairs

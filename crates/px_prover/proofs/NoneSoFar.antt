@@ -16,6 +16,10 @@ read_at xs i x within is = slice_get-get_or xs i x within ∙ ap (λ (y : _). So
 some_is : {X : Type 0} {x y : X} → Some x ≡ Some y → x ≡ y
 some_is e = cc
 
+-- a test is not true and false
+pub not_both : {b : Bool} → b ≡ false → b ≡ true → ⊥
+not_both a e = cc
+
 true_is_not_false : true ≡ false → ⊥
 true_is_not_false e = cc
 

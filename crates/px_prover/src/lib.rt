@@ -10,7 +10,6 @@ mod instances;
 mod laws;
 mod leaf_pairs;
 mod limits;
-mod spots;
 
 pub use ends::ProveEnd;
 pub use laws::{

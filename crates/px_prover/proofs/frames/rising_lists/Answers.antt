@@ -11,7 +11,7 @@ loop-place-preserved c =
     let before : c.args.count - c.loop-place.place ≡ n + 1 = omega (arith, within) in
     subst (λ (m : ℕ). AreRising m c.args.count c.append.new.self) here
     (rising_next n c.args.count below c.loop-place.lists c.in_ok-longer.longer c.append.new.self (subst (λ (m : ℕ). AreRising m c.args.count c.loop-place.lists) before c.loop-place.invariant)
-      (c.in_ok-longer.ensures ∙ ap (λ (ls : List (List ℕ)). map (λ (list : List ℕ). n ∷ list) ls) c.as_slice.ensures) c.in_ok-append.ensures)
+    (c.in_ok-longer.ensures ∙ ap (λ (ls : List (List ℕ)). map (λ (list : List ℕ). n ∷ list) ls) c.as_slice.ensures) c.in_ok-append.ensures)
 
 pub returns : goal.returns
 returns c =
