@@ -10,3 +10,7 @@ mod LeafLemmas
 mod SizeLemmas
 mod RisingLemmas
 mod NoneSoFar
+mod SpotLemmas
+mod ChoiceLemmas
+mod StandLemmas
+mod LeafRooms

@@ -1,5 +1,5 @@
 -- A walk over a list to the first item that has what is looked for: none before this place has it.
-use Rattle.std.proofs.Common.{◌≡◌, ◌<◌, ◌≤◌, ◌+◌, ◌⊎◌, inl, inr, ⊎_elim, ℕ, List, length, get_or, Some, slice_get, sym, ap, ◌∙◌, arith, Option, subst, Bool, true, false, nat_eq, eqb-true, eq-eqb, refl}
+use Rattle.std.proofs.Common.{◌≡◌, ◌<◌, ◌≤◌, ◌+◌, ◌⊎◌, inl, inr, ⊎_elim, ℕ, List, length, get_or, Some, slice_get, sym, ap, ◌∙◌, arith, Option, subst, Bool, true, false, nat_eq, eqb-true, eq-eqb, refl, IsTrue, ◌↔◌}
 use Rattle.std.proofs.lemmas.Option.{slice_get-get_or, slice_get_within}
 
 -- no item before this place has it
@@ -40,6 +40,19 @@ none_next Has xs n x before within is lacks = record {
       (cases_eq i n);
 }
 
+-- the same, where what is there has it not
+pub none_skip : {X : Type 0} (Has : X → Type 0) (xs : List X) (n : ℕ) → NoneBelow Has xs n → ((x : X) → slice_get xs n ≡ Some x → ¬ Has x) → NoneBelow Has xs (n + 1)
+none_skip Has xs n before lacks = record {
+  none = λ i y below found. ⊎_elim
+      (λ same. lacks y (sym (ap (λ (k : ℕ). slice_get xs k) same) ∙ found))
+      (λ other. before.none i y (omega (arith, below, other)) found)
+      (cases_eq i n);
+}
+
 -- none at all
 pub none_end : {X : Type 0} (Has : X → Type 0) (xs : List X) (n : ℕ) → NoneBelow Has xs n → length xs ≤ n → (i : ℕ) (x : X) → slice_get xs i ≡ Some x → ¬ Has x
 none_end Has xs n before past i x found = let within = slice_get_within xs i x found in before.none i x (omega (arith, within, past)) found
+
+-- what is told of the item at a place
+pub told_of : {X : Type 0} (Has : X → Type 0) (xs : List X) (n : ℕ) (answer : Bool) → (x : X) × (slice_get xs n ≡ Some x) × (IsTrue answer ↔ Has x) → IsTrue answer ↔ ((x : X) × (slice_get xs n ≡ Some x) × Has x)
+told_of Has xs n answer told = (λ yes. (told.0, told.1, told.2.0 yes), λ found. told.2.1 (subst Has (some_is (sym found.1 ∙ told.1)) found.2))

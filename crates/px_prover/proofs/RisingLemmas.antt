@@ -26,25 +26,25 @@ cases_eq a b = by_test (nat_eq a b) refl
     by_test false e = inr (λ same. true_is_not_false (sym (eq-eqb a b same) ∙ e))
 
 -- an element of a list, and one of the list behind it
-contains_cases : {X : Type 0} (x : X) (xs : List X) (y : X) → Contains (x ∷ xs) y → (x ≡ y) ⊎ Contains xs y
+pub contains_cases : {X : Type 0} (x : X) (xs : List X) (y : X) → Contains (x ∷ xs) y → (x ≡ y) ⊎ Contains xs y
 contains_cases x xs y (zero, within, is) = inl is
 contains_cases x xs y (suc k, within, is) = inr (k, omega (arith, within), is)
 
-contains_first : {X : Type 0} (x : X) (xs : List X) → Contains (x ∷ xs) x
+pub contains_first : {X : Type 0} (x : X) (xs : List X) → Contains (x ∷ xs) x
 contains_first x xs = (0, omega arith, refl)
 
 contains_later : {X : Type 0} (x : X) (xs : List X) (y : X) → Contains xs y → Contains (x ∷ xs) y
 contains_later x xs y (k, within, is) = (suc k, omega (arith, within), is)
 
 -- each list with a number before it
-behind_has : (number : ℕ) (lists : List (List ℕ)) (on : List ℕ) → Contains lists on → Contains (map (λ (list : List ℕ). number ∷ list) lists) (number ∷ on)
+pub behind_has : (number : ℕ) (lists : List (List ℕ)) (on : List ℕ) → Contains lists on → Contains (map (λ (list : List ℕ). number ∷ list) lists) (number ∷ on)
 behind_has number [] on (k, within, is) = absurd (omega (arith, within))
 behind_has number (list ∷ lists) on has = ⊎_elim
     (λ same. subst (λ (l : List ℕ). Contains ((number ∷ list) ∷ map (λ (l : List ℕ). number ∷ l) lists) (number ∷ l)) same (contains_first (number ∷ list) (map (λ (l : List ℕ). number ∷ l) lists)))
     (λ later. contains_later (number ∷ list) (map (λ (l : List ℕ). number ∷ l) lists) (number ∷ on) (behind_has number lists on later))
     (contains_cases list lists on has)
 
-behind_from : (number : ℕ) (lists : List (List ℕ)) (on : List ℕ) → Contains (map (λ (list : List ℕ). number ∷ list) lists) on → (list : List ℕ) × Contains lists list × (number ∷ list ≡ on)
+pub behind_from : (number : ℕ) (lists : List (List ℕ)) (on : List ℕ) → Contains (map (λ (list : List ℕ). number ∷ list) lists) on → (list : List ℕ) × Contains lists list × (number ∷ list ≡ on)
 behind_from number [] on (k, within, is) = absurd (omega (arith, within))
 behind_from number (list ∷ lists) on has = ⊎_elim
     (λ same. (list, contains_first list lists, same))

@@ -11,3 +11,4 @@ pub mod Plain
 pub mod Answers
 pub mod Laws
 pub mod Leaves
+pub mod Places

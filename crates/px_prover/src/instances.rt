@@ -1,11 +1,12 @@
 //! Instances of the equations of clauses, within the limits of a sequent.
-ghost use Rattle.std.specs.Prelude.{◌≡◌, ◌↔◌, IfOk, IsTrue, MatchOption};
+ghost use Rattle.std.specs.Prelude.{◌≡◌, IfOk, MatchOption};
 ghost use Rattle.px_terms.specs.Terms.{term_instance};
 ghost use Rattle.px_terms.specs.Noting.{equation_instance};
 ghost use Rattle.px_terms.specs.Sequents.{IsSmall, IsSmallEquation};
 
-use px_terms::limits::{SEQUENT_DEPTH, SEQUENT_NODES};
-use px_terms::{Equation, NoMemory, Sigma, Term, depth, instance, size, size_of_instance};
+use px_cases::is_small;
+use px_terms::limits::SEQUENT_NODES;
+use px_terms::{Equation, NoMemory, Sigma, Term, instance, size_of_instance};
 use std::alloc::Global;
 
 /// The instance of the equation, where both sides are within the limits: their sizes are asked before they are made. It takes
@@ -38,11 +39,4 @@ fn small_instance(alloc: Global, t: &Term, sigma: &Sigma) -> Result<Option<Term>
         return Ok(None);
     }
     Ok(Some(made))
-}
-
-/// The term is within the limits of a sequent. It takes no memory.
-pub(crate) fn is_small(t: &Term) -> bool
-    ensures { IsTrue result ↔ IsSmall t.now }
-{
-    size(t) <= SEQUENT_NODES && depth(t) <= SEQUENT_DEPTH
 }

@@ -1,10 +1,9 @@
 //! The leaf pairs of a pair of terms.
-ghost use Rattle.std.specs.Prelude.{◌≡◌, ◌<◌, ◌^◌, ◌∷◌, ◌++◌, [], IfOk, List, MatchOption};
-ghost use Rattle.px_terms.specs.declared.term.Term.{Term as Tree};
+ghost use Rattle.std.specs.Prelude.{◌≡◌, ◌<◌, ◌^◌, ◌∷◌, ◌++◌, [], IfOk};
 ghost use Rattle.px_terms.specs.Terms.{term_size, terms_size};
-ghost use Rattle.px_terms.specs.Rows.{HaveOneHead};
 ghost use Rattle.px_prover.specs.Leaves.{TellsLeafPairs, TellsLeafPairsOfFields};
 
+use px_cases::one_head;
 use px_terms::{NoMemory, Term, same_term};
 use sqlite_items::Items;
 use std::alloc::Global;
@@ -15,41 +14,6 @@ pub(crate) struct Leaf<'a> {
     pub(crate) path: Items<u32>,
     pub(crate) left: &'a Term,
     pub(crate) right: &'a Term,
-}
-
-/// The fields of two terms that are one constructor.
-#[derive(Clone, Copy)]
-pub(crate) struct Heads<'a> {
-    pub(crate) fields: &'a Items<Term>,
-    pub(crate) parts: &'a Items<Term>,
-}
-
-/// The fields of both terms; None exactly where they are not one constructor. It takes no memory.
-pub(crate) fn one_head<'a>(left: &'a Term, right: &'a Term) -> Option<Heads<'a>>
-    ensures { MatchOption result ((fields : List Tree) (parts : List Tree) → ¬ HaveOneHead left.now right.now fields parts) (λ heads. HaveOneHead left.now right.now heads.fields.now heads.parts.now) }
-{
-    let Term::Con {
-        datatype,
-        con,
-        fields,
-        ..
-    } = left
-    else {
-        return None;
-    };
-    let Term::Con {
-        datatype: other_datatype,
-        con: other_con,
-        fields: parts,
-        ..
-    } = right
-    else {
-        return None;
-    };
-    if *datatype != *other_datatype || *con != *other_con {
-        return None;
-    }
-    Some(Heads { fields, parts })
 }
 
 /// The leaf pairs of the pair at this path: none where it is one term, those of its pairs of fields where it is one constructor,

@@ -3,6 +3,7 @@
 //! in `specs/`, and none of them speaks of the search. Which derivations there are, is left to `px_terms`.
 #![tactic(auto)]
 
+mod choices;
 mod ended;
 mod ends;
 mod frames;
@@ -10,6 +11,8 @@ mod instances;
 mod laws;
 mod leaf_pairs;
 mod limits;
+mod parts;
+mod spots;
 
 pub use ends::ProveEnd;
 pub use laws::{
