@@ -14,3 +14,5 @@ mod SpotLemmas
 mod ChoiceLemmas
 mod StandLemmas
 mod LeafRooms
+mod Gathering
+mod EndedLemmas

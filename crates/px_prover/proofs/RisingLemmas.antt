@@ -1,7 +1,8 @@
 -- Lists of numbers that rise: those from a number on are those from the next on, and the same with the number before them.
-use Rattle.std.proofs.Common.{◌≡◌, ◌<◌, ◌≤◌, ◌+◌, ◌-◌, ◌⊎◌, inl, inr, ⊎_elim, ◌↔◌, ℕ, zero, suc, List, [], ◌∷◌, ◌++◌, length, map, get_or, sym, ap, subst, refl, ◌∙◌, All, Contains, arith, Bool, true, false, nat_eq, eqb-true, eq-eqb}
+use Rattle.std.proofs.Common.{◌≡◌, ◌<◌, ◌≤◌, ◌+◌, ◌-◌, ◌⊎◌, inl, inr, ⊎_elim, ◌↔◌, ℕ, zero, suc, List, [], ◌∷◌, ◌++◌, length, map, get_or, sym, ap, subst, refl, ◌∙◌, All, Contains, Result, Ok, Err, IfOk, arith, Bool, true, false, nat_eq, eqb-true, eq-eqb}
 use Rattle.std.proofs.lemmas.List.Elements.{All-nil, All-cons, All-head, All-tail, All-weaker, Contains-append_left, Contains-append_right, Contains-append_cases}
-use Rattle.px_terms.specs.Derivations.{Rise}
+use Rattle.px_terms.specs.declared.clause.Clause.{Clause}
+use Rattle.px_terms.specs.Derivations.{Rise, AreFrameVariables}
 
 -- The numbers rise from the least on, and are below the bound.
 pub record RiseFrom (least bound : ℕ) (on : List ℕ) : Type 0 where
@@ -123,4 +124,14 @@ pub rising_end : (bound : ℕ) (lists : List (List ℕ)) → AreRising 0 bound l
 rising_end bound lists are on = (
   λ has. let rise = are.rise on has in (rise.rise, rise.within),
   λ rise. are.all on (record { rise = rise.0; least_first = All-weaker (λ (v : ℕ). v < bound) (λ (v : ℕ). 0 ≤ v) (λ v more. omega arith) on rise.1; within = rise.1 }),
+)
+
+-- the lists of variables that an induction may speak of
+pub frames_answer : (clause : Clause) (count : ℕ) {E : Type 0} (result : Result (List (List ℕ)) E) → count ≡ length clause.vars →
+    IfOk result (λ (lists : List (List ℕ)). (on : List ℕ) → Contains lists on ↔ (Rise on × All (λ (v : ℕ). v < count) on)) →
+    IfOk result (λ (lists : List (List ℕ)). (on : List ℕ) → Contains lists on ↔ AreFrameVariables clause on)
+frames_answer clause count (Err end) is exact = tt
+frames_answer clause count (Ok lists) is exact = λ on. (
+  λ has. let found = (exact on).0 has in record { rise = found.0; within = subst (λ (n : ℕ). All (λ (v : ℕ). v < n) on) is found.1 },
+  λ are. (exact on).1 (are.rise, subst (λ (n : ℕ). All (λ (v : ℕ). v < n) on) (sym is) are.within),
 )

@@ -1,7 +1,7 @@
 -- The search for places: what is found of a term and its first children, and of the rest.
-use Rattle.std.proofs.Common.{◌≡◌, ◌<◌, ◌≤◌, ◌+◌, ◌⊎◌, inl, inr, ⊎_elim, ◌↔◌, ℕ, zero, suc, List, [], ◌∷◌, ◌++◌, length, map, Option, Some, None, slice_get, option_and_then, Contains, sym, ap, subst, refl, ◌∙◌, arith, append_assoc, append-nil}
-use Rattle.std.proofs.lemmas.List.{map-append}
-use Rattle.std.proofs.lemmas.List.Elements.{Contains-append_left, Contains-append_right, Contains-append_cases}
+use Rattle.std.proofs.Common.{◌≡◌, ◌<◌, ◌≤◌, ◌+◌, ◌⊎◌, inl, inr, ⊎_elim, ◌↔◌, ℕ, zero, suc, List, [], ◌∷◌, ◌++◌, length, map, take, get_or, Option, Some, None, Result, Ok, Err, IfOk, slice_get, option_and_then, Contains, sym, ap, subst, refl, ◌∙◌, arith, append_assoc, append-nil}
+use Rattle.std.proofs.lemmas.List.{map-append, map_more, take_all}
+use Rattle.std.proofs.lemmas.List.Elements.{Contains-append_left, Contains-append_right, Contains-append_cases, Contains-push, Contains-push_cases}
 use Rattle.std.proofs.lemmas.Option.{slice_get_within, slice_get-get_or}
 use Rattle.px_terms.specs.declared.term.Term.{Term}
 use Rattle.px_terms.specs.Terms.{children, subterm}
@@ -100,3 +100,66 @@ module _ (path : List ℕ) (t : Term) (i : ℕ) where
       by_way : (way : List ℕ) → p.path ≡ path ++ way → subterm t way ≡ Some p.part → StandsBefore path t i p
       by_way [] a b = itself (a ∙ append-nil path) (sym (some_is b))
       by_way (k ∷ way) a b = through k way (slice_get (children t) k) refl a b
+
+-- the path of one more place, where the part stands
+pub paths_next : (places : List Spot) (part : Term) (i : ℕ) (place : Spot) (paths new : List (List ℕ)) (way : List ℕ) → i < length places → place ≡ get_or places i place → place.part.now ≡ part → way ≡ place.path →
+    ((path : List ℕ) → Contains paths path ↔ Contains (map seen_spot (take i places)) (record { path = path; part = part })) → new ≡ paths ++ way ∷ [] →
+    (path : List ℕ) → Contains new path ↔ Contains (map seen_spot (take (i + 1) places)) (record { path = path; part = part })
+paths_next places part i place paths new way within is same way_is before new_is path =
+    let seen = map seen_spot (take i places) in
+    let here : Placed = record { path = way; part = part } in
+    let seen_here : seen_spot place ≡ here = λ k. record { path = sym way_is k; part = same k } in
+    let whole : map seen_spot (take (i + 1) places) ≡ seen ++ here ∷ [] = map_more seen_spot places i place within ∙ ap (λ (p : Placed). seen ++ p ∷ []) (ap seen_spot (sym is) ∙ seen_here) in
+    let asked : Placed = record { path = path; part = part } in (
+      λ has. subst (λ (ps : List Placed). Contains ps asked) (sym whole) (⊎_elim
+          (λ old. Contains-append_left seen (here ∷ []) asked ((before path).0 old))
+          (λ (e : way ≡ path). subst (Contains (seen ++ here ∷ [])) (ap (λ (q : List ℕ). record { path = q; part = part }) e) (Contains-push seen here))
+          (Contains-push_cases paths way path (subst (λ (qs : List (List ℕ)). Contains qs path) new_is has))),
+      λ has. subst (λ (qs : List (List ℕ)). Contains qs path) (sym new_is) (⊎_elim
+          (λ old. Contains-append_left paths (way ∷ []) path ((before path).1 old))
+          (λ (e : here ≡ asked). subst (Contains (paths ++ way ∷ [])) (ap (λ (p : Placed). p.path) e) (Contains-push paths way))
+          (Contains-push_cases seen here asked (subst (λ (ps : List Placed). Contains ps asked) whole has))),
+    )
+
+-- another part stands at one more place
+pub paths_pass : (places : List Spot) (part : Term) (i : ℕ) (place : Spot) (paths : List (List ℕ)) → i < length places → place ≡ get_or places i place → ¬ (place.part.now ≡ part) →
+    ((path : List ℕ) → Contains paths path ↔ Contains (map seen_spot (take i places)) (record { path = path; part = part })) →
+    (path : List ℕ) → Contains paths path ↔ Contains (map seen_spot (take (i + 1) places)) (record { path = path; part = part })
+paths_pass places part i place paths within is other before path =
+    let seen = map seen_spot (take i places) in
+    let here = seen_spot place in
+    let whole : map seen_spot (take (i + 1) places) ≡ seen ++ here ∷ [] = map_more seen_spot places i place within ∙ ap (λ (s : Spot). seen ++ seen_spot s ∷ []) (sym is) in
+    let asked : Placed = record { path = path; part = part } in (
+      λ has. subst (λ (ps : List Placed). Contains ps asked) (sym whole) (Contains-append_left seen (here ∷ []) asked ((before path).0 has)),
+      λ has. ⊎_elim
+          (λ old. (before path).1 old)
+          (λ (e : here ≡ asked). absurd (other (ap (λ (p : Placed). p.part) e)))
+          (Contains-push_cases seen here asked (subst (λ (ps : List Placed). Contains ps asked) whole has)),
+    )
+
+pub paths_start : (part : Term) (paths : List (List ℕ)) → paths ≡ [] → (path : List ℕ) → Contains paths path ↔ Contains {X = Placed} [] (record { path = path; part = part })
+paths_start part paths empty path = (
+  λ has. let none = subst (λ (qs : List (List ℕ)). Contains qs path) empty has in absurd (omega (arith, none.1)),
+  λ has. absurd (omega (arith, has.1)),
+)
+
+pub paths_end : (places : List Spot) (part : Term) (i : ℕ) (paths : List (List ℕ)) → length places ≤ i →
+    ((path : List ℕ) → Contains paths path ↔ Contains (map seen_spot (take i places)) (record { path = path; part = part })) →
+    (path : List ℕ) → Contains paths path ↔ Contains (map seen_spot places) (record { path = path; part = part })
+paths_end places part i paths past before path = subst (λ (ps : List Spot). Contains paths path ↔ Contains (map seen_spot ps) (record { path = path; part = part })) (take_all i places past) (before path)
+
+-- the paths to a part are those of the places of the whole term where it stands
+paths_exact : (t part : Term) (places asked : List Spot) (paths : List (List ℕ)) → ArePlaces [] t places → asked ≡ places →
+    ((path : List ℕ) → Contains paths path ↔ Contains (map seen_spot asked) (record { path = path; part = part })) → (path : List ℕ) → Contains paths path ↔ (subterm t path ≡ Some part)
+paths_exact t part places asked paths are same exact path =
+    let p : Placed = record { path = path; part = part } in
+    let known : Contains (map seen_spot asked) p ↔ IsPlaceIn [] t p = subst (λ (ss : List Spot). Contains (map seen_spot ss) p ↔ IsPlaceIn [] t p) (sym same) (are p) in (
+      λ has. let place = known.0 ((exact path).0 has) in subst (λ (q : List ℕ). subterm t q ≡ Some part) (sym place.path_is) place.part_is,
+      λ stands. (exact path).1 (known.1 (record { way = path; path_is = refl; part_is = stands })),
+    )
+
+pub paths_answer : (t part : Term) (places asked : List Spot) {E : Type 0} (result : Result (List (List ℕ)) E) → ArePlaces [] t places → asked ≡ places →
+    IfOk result (λ (paths : List (List ℕ)). (path : List ℕ) → Contains paths path ↔ Contains (map seen_spot asked) (record { path = path; part = part })) →
+    IfOk result (λ (paths : List (List ℕ)). (path : List ℕ) → Contains paths path ↔ (subterm t path ≡ Some part))
+paths_answer t part places asked (Ok paths) are same exact = paths_exact t part places asked paths are same exact
+paths_answer t part places asked (Err end) are same exact = tt

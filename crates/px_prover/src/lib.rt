@@ -10,6 +10,7 @@ mod frames;
 mod instances;
 mod laws;
 mod leaf_pairs;
+mod leaf_rooms;
 mod limits;
 mod parts;
 mod spots;

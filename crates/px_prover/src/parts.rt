@@ -1,30 +1,84 @@
 //! What stands in terms: their parts, in arms too.
-ghost use Rattle.std.specs.Prelude.{◌≡◌, ◌<◌, ◌^◌, ◌↔◌, All, Contains, IfOk, IsTrue, length, slice_get};
+ghost use Rattle.std.specs.Prelude.{◌≡◌, ◌<◌, ◌^◌, ◌↔◌, ◌⊎◌, ◌++◌, ◌∷◌, [], All, Contains, IfOk, IsTrue, Some, length, slice_get, true};
 ghost use Rattle.std.specs.Option.{option_copied};
 ghost use Rattle.px_terms.specs.declared.term.Term.{Term as Tree, out-Term};
 ghost use Rattle.px_terms.specs.Terms.{term_size};
 ghost use Rattle.px_terms.specs.Sequents.{IsSmallEquation};
+ghost use Rattle.px_prover.specs.Settling.{facts_used};
 ghost use Rattle.px_prover.specs.Uses.{StandsIn, StandsThere, parts_of, sides_of};
 
 use px_terms::{Equation, NoMemory, Term, copy, same_term};
 use sqlite_items::{Items, at};
 use std::alloc::Global;
 
-/// Copies of the terms that stand in sides of the equations. It takes memory.
-pub(crate) fn parts_of_sides(
+/// Copies of the terms that stand in the sides of the alternatives, and of the facts that are used. It takes memory.
+pub(crate) fn parts_of_branch(
     alloc: Global,
-    equations: &[Equation],
+    alternatives: &[Equation],
+    facts: &[Equation],
+    used: &[bool],
 ) -> Result<Items<Term>, NoMemory>
+    requires small_alternatives { All IsSmallEquation alternatives.now }
+    requires small_facts { All IsSmallEquation facts.now }
+    ensures { IfOk result (λ parts. (u : Tree) → Contains parts u ↔ StandsThere (sides_of alternatives.now ++ sides_of (facts_used used.now facts.now)) u) }
+{
+    let mut parts = parts_of_sides(alloc, alternatives)?;
+    let more = parts_of_used(alloc, facts, used)?;
+    parts.append(more)?;
+    Ok(parts)
+}
+
+/// Copies of the terms that stand in sides of the equations.
+fn parts_of_sides(alloc: Global, equations: &[Equation]) -> Result<Items<Term>, NoMemory>
     requires small { All IsSmallEquation equations.now }
     ensures { IfOk result (λ parts. (u : Tree) → Contains parts u ↔ StandsThere (sides_of equations.now) u) }
 {
     let mut parts = Items::new(alloc);
     for equation in equations {
-        let left = parts_in(alloc, &equation.left)?;
-        parts.append(left)?;
-        let right = parts_in(alloc, &equation.right)?;
-        parts.append(right)?;
+        let more = parts_of_equation(alloc, equation)?;
+        parts.append(more)?;
     }
+    Ok(parts)
+}
+
+/// Copies of the terms that stand in sides of the facts that are used.
+fn parts_of_used(
+    alloc: Global,
+    facts: &[Equation],
+    used: &[bool],
+) -> Result<Items<Term>, NoMemory>
+    requires small { All IsSmallEquation facts.now }
+    ensures { IfOk result (λ parts. (u : Tree) → Contains parts u ↔ StandsThere (sides_of (facts_used used.now facts.now)) u) }
+{
+    let mut parts = Items::new(alloc);
+    for number in 0..facts.len() {
+        if !is_marked(used, number) {
+            continue;
+        }
+        let more = parts_of_equation(alloc, &facts[number])?;
+        parts.append(more)?;
+    }
+    Ok(parts)
+}
+
+/// The item of this number is true.
+fn is_marked(used: &[bool], number: usize) -> bool
+    ensures { IsTrue result ↔ (slice_get used.now number ≡ Some true) }
+{
+    match at(used, number) {
+        Some(marked) => *marked,
+        None => false,
+    }
+}
+
+/// Copies of the terms that stand in the sides of the equation.
+fn parts_of_equation(alloc: Global, equation: &Equation) -> Result<Items<Term>, NoMemory>
+    requires small { IsSmallEquation equation.now }
+    ensures { IfOk result (λ parts. (u : Tree) → Contains parts u ↔ StandsThere (equation.now.left ∷ equation.now.right ∷ []) u) }
+{
+    let mut parts = parts_in(alloc, &equation.left)?;
+    let more = parts_in(alloc, &equation.right)?;
+    parts.append(more)?;
     Ok(parts)
 }
 
@@ -82,10 +136,19 @@ pub(crate) fn each_once(alloc: Global, terms: &[Term]) -> Result<Items<Term>, No
 {
     let mut kept = Items::new(alloc);
     for t in terms {
-        if !is_among(kept.as_slice(), t) {
-            kept.push(copy(alloc, t)?)?;
-        }
+        kept = with_term(alloc, kept, t)?;
     }
+    Ok(kept)
+}
+
+/// The terms, and the term behind them where it is none of them.
+fn with_term(alloc: Global, mut kept: Items<Term>, t: &Term) -> Result<Items<Term>, NoMemory>
+    ensures { IfOk result (λ new. (u : Tree) → Contains new u ↔ (Contains kept u ⊎ (t.now ≡ u))) }
+{
+    if is_among(kept.as_slice(), t) {
+        return Ok(kept);
+    }
+    kept.push(copy(alloc, t)?)?;
     Ok(kept)
 }
 

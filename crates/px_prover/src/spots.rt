@@ -1,10 +1,10 @@
 //! The places of a term that a path reaches.
-ghost use Rattle.std.specs.Prelude.{◌≡◌, ◌<◌, ◌^◌, ◌++◌, IfOk, OnOk, length};
-ghost use Rattle.px_terms.specs.Terms.{children, term_size};
-ghost use Rattle.px_prover.specs.Places.{ArePlaces};
+ghost use Rattle.std.specs.Prelude.{◌≡◌, ◌<◌, ◌^◌, ◌++◌, ◌↔◌, ℕ, Contains, IfOk, List, OnOk, Some, length, map};
+ghost use Rattle.px_terms.specs.Terms.{children, subterm, term_size};
+ghost use Rattle.px_prover.specs.Places.{ArePlaces, seen_spot};
 
 use crate::leaf_pairs::path_below;
-use px_terms::{NoMemory, Path, Term, child};
+use px_terms::{NoMemory, Path, Term, child, same_term};
 use sqlite_items::Items;
 use std::alloc::Global;
 
@@ -13,6 +13,38 @@ use std::alloc::Global;
 pub(crate) struct Spot<'a> {
     pub(crate) path: Items<u32>,
     pub(crate) part: &'a Term,
+}
+
+/// The paths at which the part stands in the term: none leads into an arm. It takes memory.
+pub(crate) fn paths_to(
+    alloc: Global,
+    t: &Term,
+    part: &Term,
+) -> Result<Items<Items<u32>>, NoMemory>
+    requires fits { term_size t.now < 2 ^ 32 }
+    ensures { IfOk result (λ paths. (path : List ℕ) → Contains paths path ↔ (subterm t.now path ≡ Some part.now)) }
+{
+    let places = spots(alloc, &[], t)?;
+    paths_of(alloc, places.as_slice(), part)
+}
+
+/// The paths of the places where this part stands.
+fn paths_of(
+    alloc: Global,
+    places: &[Spot],
+    part: &Term,
+) -> Result<Items<Items<u32>>, NoMemory>
+    ensures { IfOk result (λ paths. (path : List ℕ) → Contains paths path ↔ Contains (map seen_spot places.now) (record { path = path; part = part.now })) }
+{
+    let mut paths = Items::new(alloc);
+    for place in places {
+        if !same_term(place.part, part) {
+            continue;
+        }
+        let path = Items::from_slice(alloc, place.path.as_slice())?;
+        paths.push(path)?;
+    }
+    Ok(paths)
 }
 
 /// The places of the term, itself at this path, from the top and from left to right. It takes memory.
