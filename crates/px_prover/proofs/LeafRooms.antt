@@ -19,7 +19,7 @@ no_growth limit whole count before now small fewer = let times : count * now ≤
 
 by_growth : (rest whole count before growth : ℕ) → 0 < count → (growth ≤ rest / count) ↔ (whole + count * (growth + before) ≤ (rest + whole) + count * before)
 by_growth rest whole count before growth some =
-    let test = le-div_iff_mul-le {count} {growth} {rest} some in
+    let test = le-div_iff_mul-le {k = count} {x = growth} {y = rest} some in
     let sum : count * (growth + before) ≡ growth * count + count * before = mul_comm count (growth + before) ∙ (add-mul growth before count ∙ ap (λ (x : ℕ). growth * count + x) (mul_comm before count)) in
     (λ few. let times : growth * count ≤ rest = test.0 few in omega (arith, times, sum), λ fits. test.1 (omega (arith, fits, sum)))
 
@@ -27,8 +27,7 @@ grows : (limit whole count before now : ℕ) → whole ≤ limit → before ≤ 
 grows limit whole count before now small more some =
     let all : limit ≡ (limit - whole) + whole = omega (arith, small) in
     let new : now ≡ (now - before) + before = omega (arith, more) in
-    let parts = by_growth (limit - whole) whole count before (now - before) some in
-    (
+    let parts = by_growth (limit - whole) whole count before (now - before) some in (
       λ few. subst (λ (l : ℕ). whole + count * now ≤ l + count * before) (sym all) (subst (λ (n : ℕ). whole + count * n ≤ (limit - whole) + whole + count * before) (sym new) (parts.0 few)),
       λ fits. parts.1 (subst (λ (n : ℕ). whole + count * n ≤ (limit - whole) + whole + count * before) new (subst (λ (l : ℕ). whole + count * now ≤ l + count * before) all fits)),
     )
@@ -38,16 +37,15 @@ pub may_grow : (limit top whole count before now nodes : ℕ) → nodes ≡ min 
     (nodes - before ≤ (limit - whole) / count) ↔ (whole + count * now ≤ limit + count * before)
 may_grow limit top whole count before now nodes counted small part high some more = ⊎_elim
     (λ (over : top < now).
-      let at_top : nodes ≡ top = counted ∙ min-eq_right (omega (arith, over)) in
-      let quotient : (limit - whole) / count ≤ limit - whole = div-le_self (limit - whole) count in
-      (
-        λ few. absurd (omega (arith, few, at_top, quotient, part, high)),
-        λ fits. let growth = (grows limit whole count before now small (omega (arith, over, part, high)) some).1 fits in absurd (omega (arith, growth, quotient, part, high, over)),
-      ))
+    let at_top : nodes ≡ top = counted ∙ min-eq_right (omega (arith, over)) in
+    let quotient : (limit - whole) / count ≤ limit - whole = div-le_self (limit - whole) count in (
+      λ few. absurd (omega (arith, few, at_top, quotient, part, high)),
+      λ fits. let growth = (grows limit whole count before now small (omega (arith, over, part, high)) some).1 fits in absurd (omega (arith, growth, quotient, part, high, over)),
+    ))
     (λ (within : now ≤ top).
-      let all : nodes ≡ now = counted ∙ min-eq_left within in
-      let exact = grows limit whole count before now small (omega (arith, more, all)) some in
-      (λ few. exact.0 (omega (arith, few, all)), λ fits. let growth = exact.1 fits in omega (arith, growth, all)))
+    let all : nodes ≡ now = counted ∙ min-eq_left within in
+    let exact = grows limit whole count before now small (omega (arith, more, all)) some in
+    (λ few. exact.0 (omega (arith, few, all)), λ fits. let growth = exact.1 fits in omega (arith, growth, all)))
     (cases_lt top now)
 
 -- the nodes that are counted tell whether there are nodes left
@@ -79,11 +77,11 @@ with_and false d r told exact = absurd (false_is_true told)
 levels_fit : (depth counted : ℕ) → counted ≡ min depth (2 ^ 32 - 1) → IsTrue (leb counted SEQUENT_DEPTH) ↔ IsTrue (leb depth SEQUENT_DEPTH)
 levels_fit depth counted is = ⊎_elim
     (λ (over : 2 ^ 32 - 1 < depth).
-      let top : counted ≡ 2 ^ 32 - 1 = is ∙ min-eq_right (omega (arith, over)) in
-      (λ told. absurd (let few = leb-true counted SEQUENT_DEPTH told in omega (arith, few, top)), λ told. absurd (let few = leb-true depth SEQUENT_DEPTH told in omega (arith, few, over))))
+    let top : counted ≡ 2 ^ 32 - 1 = is ∙ min-eq_right (omega (arith, over)) in
+    (λ told. absurd (let few = leb-true counted SEQUENT_DEPTH told in omega (arith, few, top)), λ told. absurd (let few = leb-true depth SEQUENT_DEPTH told in omega (arith, few, over))))
     (λ (within : depth ≤ 2 ^ 32 - 1).
-      let all : counted ≡ depth = is ∙ min-eq_left within in
-      (λ told. subst (λ (d : ℕ). IsTrue (leb d SEQUENT_DEPTH)) all told, λ told. subst (λ (d : ℕ). IsTrue (leb d SEQUENT_DEPTH)) (sym all) told))
+    let all : counted ≡ depth = is ∙ min-eq_left within in
+    (λ told. subst (λ (d : ℕ). IsTrue (leb d SEQUENT_DEPTH)) all told, λ told. subst (λ (d : ℕ). IsTrue (leb d SEQUENT_DEPTH)) (sym all) told))
     (cases_lt (2 ^ 32 - 1) depth)
 
 module _ (count : ℕ) (whole : Term) (path : List ℕ) (before now : Term) where

@@ -86,7 +86,7 @@ module _ (t : Term) (i : ℕ) where
       by_part u (whole e) = Contains-append_left found more u (before.all u (whole e))
       by_part u (within next k less at part) = ⊎_elim
           (λ same. let one : next ≡ c = some_is (sym at ∙ (ap (λ (n : ℕ). slice_get (parts_of (out-Term t)) n) same ∙ part_is)) in
-              Contains-append_right found more u ((are u).1 (subst (λ (x : Term). StandsIn u x) one part)))
+          Contains-append_right found more u ((are u).1 (subst (λ (x : Term). StandsIn u x) one part)))
           (λ other. Contains-append_left found more u (before.all u (within next k (omega (arith, less, other)) at part)))
           (cases_eq k i)
 

@@ -12,10 +12,7 @@ use sqlite_items::Items;
 use std::alloc::Global;
 
 /// The lists of variables that an induction on the clause may speak of. It takes memory.
-pub(crate) fn frame_variables(
-    alloc: Global,
-    clause: &Clause,
-) -> Result<Items<Items<u32>>, NoMemory>
+pub(crate) fn frame_variables(alloc: Global, clause: &Clause) -> Result<Items<Items<u32>>, NoMemory>
     requires few { length clause.now.vars < 2 ^ 32 }
     ensures { IfOk result (λ lists. (on : List ℕ) → Contains lists on ↔ AreFrameVariables clause.now on) }
 {

@@ -42,11 +42,7 @@ fn parts_of_sides(alloc: Global, equations: &[Equation]) -> Result<Items<Term>, 
 }
 
 /// Copies of the terms that stand in sides of the facts that are used.
-fn parts_of_used(
-    alloc: Global,
-    facts: &[Equation],
-    used: &[bool],
-) -> Result<Items<Term>, NoMemory>
+fn parts_of_used(alloc: Global, facts: &[Equation], used: &[bool]) -> Result<Items<Term>, NoMemory>
     requires small { All IsSmallEquation facts.now }
     ensures { IfOk result (λ parts. (u : Tree) → Contains parts u ↔ StandsThere (sides_of (facts_used used.now facts.now)) u) }
 {

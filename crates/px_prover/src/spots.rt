@@ -16,11 +16,7 @@ pub(crate) struct Spot<'a> {
 }
 
 /// The paths at which the part stands in the term: none leads into an arm. It takes memory.
-pub(crate) fn paths_to(
-    alloc: Global,
-    t: &Term,
-    part: &Term,
-) -> Result<Items<Items<u32>>, NoMemory>
+pub(crate) fn paths_to(alloc: Global, t: &Term, part: &Term) -> Result<Items<Items<u32>>, NoMemory>
     requires fits { term_size t.now < 2 ^ 32 }
     ensures { IfOk result (λ paths. (path : List ℕ) → Contains paths path ↔ (subterm t.now path ≡ Some part.now)) }
 {
@@ -29,11 +25,7 @@ pub(crate) fn paths_to(
 }
 
 /// The paths of the places where this part stands.
-fn paths_of(
-    alloc: Global,
-    places: &[Spot],
-    part: &Term,
-) -> Result<Items<Items<u32>>, NoMemory>
+fn paths_of(alloc: Global, places: &[Spot], part: &Term) -> Result<Items<Items<u32>>, NoMemory>
     ensures { IfOk result (λ paths. (path : List ℕ) → Contains paths path ↔ Contains (map seen_spot places.now) (record { path = path; part = part.now })) }
 {
     let mut paths = Items::new(alloc);
