@@ -16,3 +16,4 @@ mod StandLemmas
 mod LeafRooms
 mod Gathering
 mod EndedLemmas
+mod TypeLemmas

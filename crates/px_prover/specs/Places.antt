@@ -1,7 +1,9 @@
--- The places of a term that a path reaches. For proofs.
+-- The places of a term that a path reaches, and what stands in one of some types. For proofs.
 use Rattle.std.specs.Prelude.{◌≡◌, ◌↔◌, ℕ, List, ◌++◌, map, Contains, Some}
 use Rattle.px_terms.specs.declared.term.Term.{Term}
+use Rattle.px_terms.specs.declared.types.Ty.{Ty}
 use Rattle.px_terms.specs.Terms.{subterm}
+use Rattle.px_prover.specs.Uses.{TypeStandsIn}
 use Rattle.px_prover.specs.declared.spots.Spot.{Spot}
 
 -- A part of a term, and the path to it from where the term stands.
@@ -22,3 +24,9 @@ pub record IsPlaceIn (path : List ℕ) (t : Term) (p : Placed) : Type 0 where
 -- these are the places of t, which is itself at this path
 abbrev pub ArePlaces : List ℕ → Term → List Spot → Type 0
 ArePlaces path t found = (p : Placed) → Contains (map seen_spot found) p ↔ IsPlaceIn path t p
+
+-- The type stands in one of these.
+pub record TypeStandsThere (types : List Ty) (T : Ty) : Type 0 where
+  pub whole : Ty
+  pub is_whole : Contains types whole
+  pub part : TypeStandsIn T whole

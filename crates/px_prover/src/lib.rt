@@ -14,6 +14,7 @@ mod leaf_rooms;
 mod limits;
 mod parts;
 mod spots;
+mod written;
 
 pub use ends::ProveEnd;
 pub use laws::{
