@@ -1,5 +1,5 @@
 -- Lists of numbers below a count: those of one more place are each number with each list behind it.
-use Rattle.std.proofs.Common.{◌≡◌, ◌<◌, ◌≤◌, ◌+◌, ◌⊎◌, inl, inr, ⊎_elim, ◌↔◌, ℕ, zero, suc, List, [], ◌∷◌, ◌++◌, length, map, All, Contains, sym, ap, subst, refl, ◌∙◌, arith}
+use Rattle.std.proofs.Common.{◌≡◌, ◌<◌, ◌≤◌, ◌+◌, ⊎_elim, ◌↔◌, ℕ, List, [], ◌∷◌, ◌++◌, length, map, All, Contains, sym, ap, subst, refl, ◌∙◌, arith}
 use Rattle.std.proofs.lemmas.List.Elements.{All-nil, All-cons, All-head, All-tail, Contains-append_left, Contains-append_right, Contains-append_cases}
 use Rattle.px_prover.proofs.NoneSoFar.{cases_eq}
 use Rattle.px_prover.proofs.RisingLemmas.{contains_cases, contains_first, behind_has, behind_from}

@@ -1,5 +1,5 @@
 -- A sequent that is closed as it stands: by a fact that clashes, or by an alternative with one term on both sides.
-use Rattle.std.proofs.Common.{◌≡◌, ◌↔◌, ℕ, List, Option, Some, None, is_some, MatchOption, IsTrue, Bool, true, false, slice_get, refl, sym, ◌∙◌, subst}
+use Rattle.std.proofs.Common.{◌≡◌, ◌↔◌, ℕ, List, Option, Some, None, is_some, MatchOption, IsTrue, Bool, true, false, slice_get, sym, ◌∙◌, subst}
 use Rattle.px_terms.specs.declared.clause.Equation.{Equation}
 use Rattle.px_terms.specs.declared.sequent.Sequent.{Sequent}
 use Rattle.px_terms.specs.Rows.{HeadsClash}

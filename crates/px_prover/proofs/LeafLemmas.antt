@@ -1,5 +1,5 @@
 -- The search for leaf pairs: what is found of some pairs of fields, and of the rest.
-use Rattle.std.proofs.Common.{◌≡◌, ◌≢◌, ℕ, suc, ◌+◌, ◌-◌, ◌<◌, ◌≤◌, arith, List, [], ◌∷◌, ◌++◌, length, map, drop, get_or, Option, Some, None, Result, Ok, Err, IfOk, Bool, true, false, sym, ap, ◌∙◌, subst, refl, append_assoc, append-nil}
+use Rattle.std.proofs.Common.{◌≡◌, ℕ, suc, ◌+◌, ◌-◌, ◌<◌, ◌≤◌, arith, List, [], ◌∷◌, ◌++◌, length, map, drop, get_or, Option, Some, None, Result, Ok, Err, IfOk, Bool, true, false, sym, ap, ◌∙◌, subst, refl, append_assoc, append-nil}
 use Rattle.std.proofs.lemmas.List.{map-append, length-map, length-append, drop_more, drop_all}
 use Rattle.px_terms.specs.declared.term.Term.{Term}
 use Rattle.px_terms.specs.Rows.{HaveOneHead}

@@ -1,5 +1,5 @@
 -- The nodes that a side of a leaf pair may have: by how much it grows.
-use Rattle.std.proofs.Common.{◌≡◌, ◌<◌, ◌≤◌, ◌+◌, ◌-◌, ◌*◌, ◌/◌, ◌⊎◌, ⊎_elim, ◌↔◌, ◌^◌, ◌&&◌, ℕ, List, min, Bool, true, false, IsTrue, nat_le, leb, Option, unwrap_or, refl, sym, ap, subst, ◌∙◌, arith}
+use Rattle.std.proofs.Common.{◌≡◌, ◌<◌, ◌≤◌, ◌+◌, ◌-◌, ◌*◌, ◌/◌, ⊎_elim, ◌↔◌, ◌^◌, ◌&&◌, ℕ, List, min, Bool, true, false, IsTrue, nat_le, leb, Option, unwrap_or, refl, sym, ap, subst, ◌∙◌, arith}
 use Rattle.std.proofs.Math.Nat.{le-div_iff_mul-le, mul-le-mul_left, zero-mul, mul_comm, add-mul, div-le_self, min-eq_left, min-eq_right}
 use Rattle.std.proofs.lemmas.Bool.{cases_lt, le-leb, leb-true}
 use Rattle.px_base.specs.declared.limits.TheConstants.{SEQUENT_NODES, SEQUENT_DEPTH}

@@ -1,5 +1,5 @@
 -- A walk over a list to the first item that has what is looked for: none before this place has it.
-use Rattle.std.proofs.Common.{◌≡◌, ◌<◌, ◌≤◌, ◌+◌, ◌⊎◌, inl, inr, ⊎_elim, ℕ, List, length, get_or, Some, slice_get, sym, ap, ◌∙◌, arith, Option, subst, Bool, true, false, nat_eq, eqb-true, eq-eqb, refl, IsTrue, ◌↔◌}
+use Rattle.std.proofs.Common.{◌≡◌, ◌<◌, ◌≤◌, ◌+◌, ◌⊎◌, inl, inr, ⊎_elim, ℕ, List, length, get_or, Some, slice_get, sym, ap, ◌∙◌, arith, subst, Bool, true, false, nat_eq, eqb-true, eq-eqb, refl, IsTrue, ◌↔◌}
 use Rattle.std.proofs.lemmas.Option.{slice_get-get_or, slice_get_within}
 
 -- no item before this place has it

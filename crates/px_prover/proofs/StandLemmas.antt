@@ -1,13 +1,12 @@
 -- The search for what stands in a term: what is found in itself and its first parts, and in the rest.
-use Rattle.std.proofs.Common.{◌≡◌, ◌<◌, ◌≤◌, ◌+◌, ◌⊎◌, inl, inr, ⊎_elim, ◌↔◌, ℕ, zero, suc, List, [], ◌∷◌, ◌++◌, length, Option, Some, None, slice_get, Contains, sym, ap, subst, refl, ◌∙◌, arith, ◌^◌}
+use Rattle.std.proofs.Common.{◌≡◌, ◌<◌, ◌≤◌, ◌+◌, ⊎_elim, ◌↔◌, ℕ, zero, suc, List, [], ◌∷◌, ◌++◌, length, Some, None, slice_get, Contains, sym, ap, subst, refl, ◌∙◌, arith, ◌^◌}
 use Rattle.std.proofs.lemmas.List.Elements.{Contains-append_left, Contains-append_right, Contains-append_cases}
 use Rattle.std.proofs.lemmas.Option.{slice_get_within, slice_get-get_or}
 use Rattle.px_terms.specs.declared.term.Term.{Term, out-Term}
 use Rattle.px_terms.specs.declared.types.Ty.{Ty}
 use Rattle.px_terms.specs.declared.term.Term.TheVariants as term
 use Rattle.px_terms.specs.declared.term.Term.TheOpen.{Term-F}
-use Rattle.px_terms.specs.Terms.{term_size, terms_size}
-use Rattle.px_terms.specs.Types.{tys_size, fun_size}
+use Rattle.px_terms.specs.Terms.{term_size}
 use Rattle.px_prover.specs.Uses.{parts_of, StandsIn, itself, inside}
 use Rattle.px_prover.proofs.NoneSoFar.{cases_eq}
 use Rattle.px_prover.proofs.SizeLemmas.{layer_size, size_by_layer, standing_size, one_node, as_many}

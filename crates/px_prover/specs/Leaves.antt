@@ -1,5 +1,5 @@
 -- What the search for leaf pairs answers. For proofs.
-use Rattle.std.specs.Prelude.{◌≡◌, ℕ, ◌≤◌, ◌<◌, List, length, map, Option, MatchOption}
+use Rattle.std.specs.Prelude.{ℕ, ◌≤◌, ◌<◌, List, length, map, Option, MatchOption}
 use Rattle.px_terms.specs.declared.term.Term.{Term}
 use Rattle.px_prover.specs.declared.leaf_pairs.Leaf.{Leaf}
 use Rattle.px_prover.specs.Closing.{LeafPair, AreLeafPairs, AreLeafPairsOfFields}

@@ -1,4 +1,4 @@
-use Rattle.std.proofs.Common.{◌≡◌, ◌++◌, ◌∷◌, [], ℕ, List, subst, sym, ◌∙◌}
+use Rattle.std.proofs.Common.{◌++◌, ◌∷◌, [], ℕ, List, subst, sym, ◌∙◌}
 use Rattle.px_prover.proofs.ChoiceLemmas.{AreLists, lists_start, lists_next, lists_end}
 use Rattle.px_prover.proofs.choices.number_lists.Goals as goal
 

@@ -1,4 +1,4 @@
-use Rattle.std.proofs.Common.{◌-◌, ◌≤◌}
+use Rattle.std.proofs.Common.{◌-◌}
 use Rattle.px_prover.proofs.RisingLemmas.{AreRising}
 use Rattle.px_prover.proofs.frames.rising_lists.Given as goal
 

@@ -1,6 +1,5 @@
-use Rattle.std.proofs.Common.{rules, ◌<◌, ◌^◌, arith, ◌≡◌, ◌-◌, ◌+◌, ◌*◌, ℕ, List, length, subst, ap, ◌∙◌}
+use Rattle.std.proofs.Common.{◌<◌, ◌^◌, arith, ◌-◌, ◌+◌, ◌*◌, ℕ, List, length, subst, ap, ◌∙◌}
 use Rattle.px_terms.specs.Terms.{term_size, terms_size}
-use Rattle.px_prover.specs.Closing.{LeafPair}
 use Rattle.px_prover.specs.Leaves.{TellsLeafPairs}
 use Rattle.px_prover.proofs.LeafLemmas.{none_of_equal, of_fields_answer, none_for_itself, fields_uneven, too_many, so_far_next, so_far_end, not_both, itself_alone}
 use Rattle.px_prover.proofs.SizeLemmas.{number_fits, item_fits, item_falls, fields_fit, fields_fall}

@@ -1,4 +1,4 @@
-use Rattle.std.proofs.Common.{◌≡◌, ◌<◌, ◌≤◌, ℕ, length, subst, sym, arith}
+use Rattle.std.proofs.Common.{◌<◌, ◌≤◌, ℕ, subst, sym, arith}
 use Rattle.px_terms.specs.Terms.{term_size}
 use Rattle.px_prover.proofs.StandLemmas.{part_stands, part_falls, parts_start, parts_next, parts_end}
 use Rattle.px_prover.proofs.parts.+parts_in.Goals as goal

@@ -1,4 +1,4 @@
-use Rattle.std.proofs.Common.{◌≡◌, ◌<◌, ◌^◌, ℕ, length, arith}
+use Rattle.std.proofs.Common.{◌<◌, ◌^◌, length, arith}
 use Rattle.px_prover.proofs.StandLemmas.{arms_fit}
 use Rattle.px_prover.proofs.parts.part_count.Goals as goal
 

@@ -1,5 +1,5 @@
 use Rattle.px_prover.proofs.NoneSoFar.{not_both}
-use Rattle.px_prover.proofs.Gathering.{used_start, used_next, used_passes, used_end, item_small}
+use Rattle.px_prover.proofs.Gathering.{used_start, used_next, used_passes, used_end}
 use Rattle.px_prover.proofs.parts.parts_of_used.Goals as goal
 
 pub loop-number-init : goal.loop-number-init

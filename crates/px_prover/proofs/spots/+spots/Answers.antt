@@ -1,5 +1,5 @@
-use Rattle.std.proofs.Common.{◌≡◌, ◌<◌, ◌≤◌, ◌^◌, ℕ, List, length, ap, subst, sym, ◌∙◌, arith}
-use Rattle.px_terms.specs.Terms.{children, term_size}
+use Rattle.std.proofs.Common.{◌<◌, ◌≤◌, ◌^◌, ℕ, List, ap, subst, sym, ◌∙◌, arith}
+use Rattle.px_terms.specs.Terms.{term_size}
 use Rattle.px_prover.proofs.SpotLemmas.{child_stands, places_start, places_next, places_end}
 use Rattle.px_prover.proofs.SizeLemmas.{child_falls, child_number_fits}
 use Rattle.px_prover.proofs.spots.+spots.Goals as goal

@@ -1,4 +1,4 @@
-use Rattle.std.proofs.Common.{[], ap, ◌∙◌}
+use Rattle.std.proofs.Common.{◌∙◌}
 use Rattle.px_terms.specs.declared.types.Fun.{Fun}
 use Rattle.px_prover.proofs.TypeLemmas.{listed_next}
 use Rattle.px_prover.proofs.written.types_of_call.Goals as goal

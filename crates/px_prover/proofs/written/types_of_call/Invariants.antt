@@ -1,4 +1,4 @@
-use Rattle.std.proofs.Common.{◌≡◌, ◌++◌, [], take, flat_map}
+use Rattle.std.proofs.Common.{◌≡◌, ◌++◌, take, flat_map}
 use Rattle.px_terms.specs.declared.types.Fun.{Fun}
 use Rattle.px_prover.proofs.written.types_of_call.Given as goal
 

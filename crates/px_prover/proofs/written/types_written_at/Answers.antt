@@ -1,4 +1,4 @@
-use Rattle.std.proofs.Common.{[], ap, ◌∙◌}
+use Rattle.std.proofs.Common.{[]}
 use Rattle.px_terms.specs.declared.term.Term.{Term, out-Term}
 use Rattle.px_prover.specs.Uses.{types_written}
 use Rattle.px_prover.proofs.TypeLemmas.{listed_next}
