@@ -3,9 +3,17 @@
 //! in `specs/`, and none of them speaks of the search. Which derivations there are, is left to `px_terms`.
 #![tactic(auto)]
 
+mod branch;
+mod deeds;
 mod ends;
+mod heads;
 mod laws;
 mod limits;
+mod norm;
+mod settle;
+mod stages;
+mod step_rows;
+mod stops;
 
 pub use ends::ProveEnd;
 pub use laws::{
