@@ -1,5 +1,5 @@
 -- Trees of stops, and what blocks a normal term.
-use Rattle.std.proofs.Common.{◌≡◌, ◌≤◌, ◌<◌, ◌+◌, ◌-◌, ℕ, zero, suc, List, [], ◌∷◌, map, length, take, get_or, Bool, true, false, if◌then◌else◌, ◌&&◌, Option, Some, None, refl, sym, ap, ◌∙◌, subst, arith, slice_get}
+use Rattle.std.proofs.Common.{◌≡◌, ◌≤◌, ◌<◌, ◌+◌, ◌-◌, ℕ, zero, suc, List, [], ◌∷◌, map, length, take, get_or, Bool, true, false, if◌then◌else◌, ◌&&◌, Option, Some, None, refl, sym, ap, ◌∙◌, subst, arith, slice_get, inl, inr, ◌⊎◌}
 use Rattle.std.specs.List.{list_all}
 use Rattle.std.specs.Option.{option_or}
 use Rattle.px_base.specs.declared.head.Head.{Head}
@@ -132,3 +132,21 @@ free_so_far (u ∷ us) (suc i) t within is free so_far =
 -- none so far holds a match
 pub none_holds : (ts : List Term) (i : ℕ) (t : Term) → i < length ts → t ≡ get_or ts i t → is_match_free t ≡ true → are_match_free (take i ts) ≡ true → are_match_free (take (i + 1) ts) ≡ true
 none_holds ts i t within is free so_far = let one : suc i ≡ i + 1 = omega arith in subst (λ (k : ℕ). are_match_free (take k ts) ≡ true) one (free_so_far ts i t within is free so_far)
+
+-- what is called is no definition
+abbrev pub IsOther : Head → Type 0
+IsOther h = (h ≡ Wle) ⊎ ((h ≡ Weq) ⊎ ((i : ℕ) × (h ≡ FnVar i)))
+
+other_blocks : (h : Head) → IsOther h → (u : Term) (args : List Term) (stops : Stops) → blocked_by_call h u args stops ≡ option_or (first_stop stops 0 (length args)) (if is_match_free u then Some u else None)
+other_blocks h (inl is) u args stops = ap (λ (x : Head). blocked_by_call x u args stops) is
+other_blocks h (inr (inl is)) u args stops = ap (λ (x : Head). blocked_by_call x u args stops) is
+other_blocks h (inr (inr is)) u args stops = ap (λ (x : Head). blocked_by_call x u args stops) is.1
+
+-- what a call of no definition blocks by
+pub call_blocks : (u : Term) (tree : StopTree) (f : Fun) (funs : List Fun) (args : List Term) (parts : List StopTree) (count : ℕ) (result : Option Term) → u ≡ term.Call f funs args → IsOther f.head →
+    parts ≡ (out-StopTree tree).parts → count ≡ length args → result ≡ option_or (first_stop (stops_of parts) 0 count) (if is_match_free u then Some u else None) → result ≡ inner u (stops_in tree)
+call_blocks u tree f funs args parts count result is other parts_are count_is told =
+    let itself : Option Term = if is_match_free u then Some u else None in
+    let layer : out-Term u ≡ Term-F.Call f funs args = ap out-Term is ∙ term.outs-Call f funs args in
+    told ∙ (λ k. option_or (first_stop (stops_of (parts_are k)) 0 (count_is k)) itself) ∙ ap (λ (o : Option Term). option_or o itself) (sym (same_first tree 0 (length args)))
+    ∙ sym (other_blocks f.head other u args (stops_in tree)) ∙ sym (ap (λ (y : Term-F Term). blocked_by y u (stops_in tree)) layer)

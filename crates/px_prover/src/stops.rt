@@ -1,7 +1,7 @@
 //! What blocks a normal term.
 
-ghost use Rattle.std.specs.Prelude.{◌≡◌, [], ◌∷◌};
-ghost use Rattle.std.specs.Option.{option_copied};
+ghost use Rattle.std.specs.Prelude.{◌≡◌, [], ◌∷◌, if◌then◌else◌, None, Some};
+ghost use Rattle.std.specs.Option.{option_copied, option_or};
 ghost use Rattle.px_prover.specs.Norms.{first_stop as stop_from, inner as inner_of, is_match_free as has_no_match, are_match_free as have_no_match};
 ghost use Rattle.px_prover.specs.Normalising.{stops_in, stops_of};
 
@@ -20,15 +20,20 @@ pub(crate) fn inner<'a>(u: &'a Term, stops: &'a StopTree) -> Option<&'a Term>
         Term::Call { fun, args, .. } => match fun.head {
             Head::Def(_) => stops.own.as_ref(),
             Head::Wle | Head::Weq | Head::FnVar(_) => {
-                let first = first_stop(stops.parts.as_slice(), args.len());
-                if first.is_some() || !is_match_free(u) {
-                    first
-                } else {
-                    Some(u)
-                }
+                stop_of_call(u, stops.parts.as_slice(), args.len())
             }
         },
         Term::Bound(_) | Term::Lit(_) | Term::Con { .. } => None,
+    }
+}
+
+/// What a call of no definition blocks by: its first argument of so many that is blocked, or itself where it has no match.
+fn stop_of_call<'a>(u: &'a Term, parts: &'a [StopTree], count: usize) -> Option<&'a Term>
+    ensures { option_copied result ≡ option_or (stop_from (stops_of parts.now) 0 count) (if has_no_match u.now then Some u.now else None) }
+{
+    match first_stop(parts, count) {
+        Some(stop) => Some(stop),
+        None => { if is_match_free(u) { Some(u) } else { None } }
     }
 }
 
@@ -37,9 +42,9 @@ fn first_stop(parts: &[StopTree], count: usize) -> Option<&Term>
     ensures { option_copied result ≡ stop_from (stops_of parts.now) 0 count }
 {
     for number in 0..count {
-        let stop = stop_of_part(parts, number);
-        if stop.is_some() {
-            return stop;
+        match stop_of_part(parts, number) {
+            Some(stop) => return Some(stop),
+            None => {}
         }
     }
     None
