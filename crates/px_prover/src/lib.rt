@@ -9,8 +9,6 @@ mod ends;
 mod heads;
 mod laws;
 mod limits;
-mod norm;
-mod settle;
 mod stages;
 mod step_rows;
 mod stops;

@@ -17,9 +17,10 @@ use Rattle.px_prover.specs.declared.settle.Sides.{Sides}
 use Rattle.px_prover.specs.declared.settle.SideStops.{SideStops}
 use Rattle.px_prover.specs.Rooms.{whole_side}
 use Rattle.px_prover.specs.Norms.{Stops, Norm}
-use Rattle.px_prover.specs.Normalising.{KeepsUsed, live, normal_of, stops_in}
+use Rattle.px_prover.specs.Normalising.{KeepsUsed, live, stops_in}
+use Rattle.px_prover.specs.Turning.{normal_of}
 use Rattle.px_prover.specs.Settling.{facts_used, NormalSides, sides, AreNormalSides, none, more}
-use Rattle.px_prover.specs.StepRows.{AreSidesOf, AreSidesOfAlternative, alternative_rows, RowsLead, stops_of_sides, stops_found, IsNormalBranch}
+use Rattle.px_prover.specs.SettleRows.{AreSidesOf, AreSidesOfAlternative, alternative_rows, RowsLead, stops_of_sides, stops_found, IsNormalBranch}
 use Rattle.px_prover.proofs.MixedLists.{mixed, mixed_all, left_is, left_none}
 use Rattle.px_prover.proofs.RowLemmas.{alternative_place}
 use Rattle.px_prover.proofs.SettleLemmas.{no_rows, more_rows, sides_rows, sides_within}

@@ -5,7 +5,7 @@ ghost use Rattle.px_base.specs.declared.limits.TheConstants.{FACTS as MOST_FACTS
 ghost use Rattle.px_terms.specs.Clauses.{equals};
 ghost use Rattle.px_terms.specs.Sequents.{IsSmall, IsSmallEquation, IsWithinLimits};
 ghost use Rattle.px_prover.specs.Settling.{IsIdle};
-ghost use Rattle.px_prover.specs.StepRows.{AreSides, AreSidesAt, AreSidesOfAlternative, IsNormalBranch, IsNormalSide, SettlesTo, alternative_rows, fact_rows};
+ghost use Rattle.px_prover.specs.SettleRows.{AreSides, AreSidesAt, AreSidesOfAlternative, IsNormalBranch, IsNormalSide, SettlesTo, alternative_rows, fact_rows};
 
 use crate::branch::Branch;
 use crate::deeds::{Setting, is_used};

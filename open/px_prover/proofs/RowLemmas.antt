@@ -23,8 +23,10 @@ use Rattle.px_terms.specs.Derivations.{Leads, stays, goes_on}
 use Rattle.px_prover.specs.declared.deeds.Setting.{Setting}
 use Rattle.px_prover.specs.Rooms.{whole_side}
 use Rattle.px_prover.specs.Moves.{Move}
-use Rattle.px_prover.specs.Normalising.{IsRoom, KeepsUsed, StepsLead, no_step, steps_on}
-use Rattle.px_prover.specs.StepRows.{step_rows, RowsLead}
+use Rattle.px_prover.specs.Normalising.{IsRoom, KeepsUsed}
+use Rattle.px_prover.specs.Turning.{StepsLead, no_step, steps_on}
+use Rattle.px_prover.specs.StepRows.{step_rows}
+use Rattle.px_prover.specs.SettleRows.{RowsLead}
 use Rattle.px_prover.proofs.RoomLemmas.{within_room}
 
 -- an item that was put in

@@ -6,7 +6,8 @@ ghost use Rattle.std.specs.Option.{option_copied};
 ghost use Rattle.px_terms.specs.declared.term.Term.{Term as Tree, out-Term};
 ghost use Rattle.px_prover.specs.Deeds.{selected as selects};
 ghost use Rattle.px_prover.specs.Norms.{stop_of};
-ghost use Rattle.px_prover.specs.Normalising.{AreLeft, AreNormalised, HasLimits, HasRoom, HaveRoom, IsAfter, IsAfterSelect, IsBehind, IsChosen, IsFrame, IsLed, IsLeftAt, IsLimited, IsMatch, IsNormalised, IsParted, IsTurn, IsUnparted, stops_in};
+ghost use Rattle.px_prover.specs.Normalising.{IsLimited, stops_in};
+ghost use Rattle.px_prover.specs.Turning.{AreLeft, AreNormalised, HasLimits, HasRoom, HaveRoom, IsAfter, IsAfterSelect, IsBehind, IsChosen, IsFrame, IsLed, IsLeftAt, IsMatch, IsNormalised, IsParted, IsTurn, IsUnparted};
 
 use crate::deeds::{Deed, Setting, deed_at, selected};
 use crate::stages::{

@@ -5,7 +5,8 @@ use Rattle.px_terms.specs.Terms.{children, with_child}
 use Rattle.px_prover.specs.declared.deeds.Setting.{Setting}
 use Rattle.px_prover.specs.Rooms.{Room, room_in}
 use Rattle.px_prover.specs.Moves.{Move}
-use Rattle.px_prover.specs.Normalising.{moves_below, StepsLead, no_step, steps_on}
+use Rattle.px_prover.specs.Normalising.{moves_below}
+use Rattle.px_prover.specs.Turning.{StepsLead, no_step, steps_on}
 use Rattle.px_prover.proofs.ChildMoves.{child_move}
 
 -- steps one after the other

@@ -26,7 +26,8 @@ use Rattle.px_prover.specs.Rooms.{Room, room_in}
 use Rattle.px_prover.specs.Deeds.{FirstRewrite, Deed, takes, leads, rests, selected, deed_at, may, permitted}
 use Rattle.px_prover.specs.Norms.{Normal, Parted, inner, left_at, LeadEnd, freed, blocked, match_of, Norm, NormParts, NormAt, Lead, normal, taken, led, stuck, rested, no_match, goes_on, waits}
 use Rattle.px_prover.specs.Moves.{Move}
-use Rattle.px_prover.specs.Normalising.{stops_in, moves_step, moves_below, moves_in, moves_of, IsRoom, live, KeepsUsed, StepsLead, no_step, steps_on, StagesLead, HasRoom, IsLeft, normal_of, parted_of, IsNormalised, IsParted, NormFrom, IsDone, Goes, Stays, IsFreed, IsBlocked, IsBehind, HasLimits, IsAfter, IsMatch, IsChosen, IsLeftAt}
+use Rattle.px_prover.specs.Normalising.{stops_in, moves_step, moves_below, moves_in, moves_of, IsRoom, live, KeepsUsed, IsDone}
+use Rattle.px_prover.specs.Turning.{StepsLead, no_step, steps_on, StagesLead, HasRoom, IsLeft, normal_of, parted_of, IsNormalised, IsParted, NormFrom, Goes, Stays, IsFreed, IsBlocked, IsBehind, HasLimits, IsAfter, IsMatch, IsChosen, IsLeftAt}
 use Rattle.px_prover.proofs.RoomLemmas.{has_room}
 use Rattle.px_prover.proofs.PartLemmas.{match_left, match_lead, scrutinee_room}
 use Rattle.px_prover.proofs.StageLemmas.{moves_first}

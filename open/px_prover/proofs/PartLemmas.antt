@@ -20,9 +20,10 @@ use Rattle.px_prover.specs.declared.stages.StopTree.{StopTree}
 use Rattle.px_prover.specs.Rooms.{Room, room_in}
 use Rattle.px_prover.specs.Norms.{Stops, Normal, Parted, Norm, NormParts, normal, no_part, part}
 use Rattle.px_prover.specs.Moves.{Move}
-use Rattle.px_prover.specs.Normalising.{stops_in, moves_below, moves_of, IsRoom, live, KeepsUsed, StepsLead, no_step, StagesLead, HasRoom, HaveRoom, IsLeft, AreLeft, IsFrame, normal_of, parted_of, IsNormalised, IsParted, AreNormalised, IsUnparted, IsMatch}
+use Rattle.px_prover.specs.Normalising.{stops_in, moves_below, moves_of, IsRoom, live, KeepsUsed}
+use Rattle.px_prover.specs.Turning.{StepsLead, no_step, StagesLead, HasRoom, HaveRoom, IsLeft, AreLeft, IsFrame, normal_of, parted_of, IsNormalised, IsParted, AreNormalised, IsUnparted, IsMatch}
 use Rattle.px_rewrite.proofs.PartSizes.{Exchanged}
-use Rattle.px_prover.proofs.RoomLemmas.{child_room, exchanged, child_levels, con_frame, call_frame, has_level}
+use Rattle.px_prover.proofs.FrameLemmas.{child_room, exchanged, child_levels, con_frame, call_frame, has_level}
 use Rattle.px_prover.proofs.ChildMoves.{child_same}
 use Rattle.px_prover.proofs.StepLemmas.{steps_below}
 

@@ -23,9 +23,11 @@ use Rattle.px_prover.specs.declared.deeds.Setting.{Setting}
 use Rattle.px_prover.specs.declared.settle.Sides.{Sides}
 use Rattle.px_prover.specs.Rooms.{whole_side}
 use Rattle.px_prover.specs.Norms.{HasNorm}
-use Rattle.px_prover.specs.Normalising.{KeepsUsed, live, moves_of, normal_of}
+use Rattle.px_prover.specs.Normalising.{KeepsUsed, live, moves_of}
+use Rattle.px_prover.specs.Turning.{normal_of}
 use Rattle.px_prover.specs.Settling.{facts_used, IsIdle, FactBecomes, Settled, closed, open_with, Settles, all_settled, passes, clashes, idles, says, SettlesBranch}
-use Rattle.px_prover.specs.StepRows.{step_rows, IsNormalSide, AreSides, AreSidesOf, AreSidesAt, fact_rows, RowsLead, IsOpened, IsClosed}
+use Rattle.px_prover.specs.StepRows.{step_rows}
+use Rattle.px_prover.specs.SettleRows.{IsNormalSide, AreSides, AreSidesOf, AreSidesAt, fact_rows, RowsLead, IsOpened, IsClosed}
 use Rattle.px_prover.proofs.RowLemmas.{one_of_all, IsPlace, fact_place, alternative_place, side_rows, side_within, length_set, got_put, put_twice, put_same}
 
 -- rows one after the other
