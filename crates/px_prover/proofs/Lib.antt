@@ -1,7 +1,14 @@
+pub mod RoomLemmas
+pub mod Counting
 mod OneNorm
 mod ChildMoves
 mod DeedMoves
 mod NormMoves
+pub mod DeedLemmas
+pub mod OwnDeeds
+pub mod StageLemmas
+pub mod HeadLemmas
+pub mod StopLemmas
 mod OneSettling
 mod OneBlocker
 mod MoreSplits

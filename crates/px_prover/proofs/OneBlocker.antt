@@ -5,7 +5,8 @@ use Rattle.px_terms.specs.declared.term.Term.TheOpen.{Term-F}
 use Rattle.px_terms.specs.declared.clause.Clause.{Clause}
 use Rattle.px_terms.specs.declared.program.Program.{Program}
 use Rattle.px_terms.specs.Rows.{HaveOneHead}
-use Rattle.px_prover.specs.Settling.{Branch, NormalSides, sides}
+use Rattle.px_prover.specs.declared.branch.Branch.{Branch}
+use Rattle.px_prover.specs.Settling.{NormalSides, sides}
 use Rattle.px_prover.specs.Closing.{LeafPair, AreLeafPairs, AreLeafPairsOfFields, equal, fields, itself, no_field, more_fields, Closes}
 use Rattle.px_prover.specs.Blocking.{BlocksAt, BlocksInFields, IsBlocker, in_fields, at_stop, next_field, this_field, this_one, next_one}
 use Rattle.px_prover.specs.Blocking as blocking
