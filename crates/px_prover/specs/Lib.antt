@@ -3,6 +3,8 @@ pub mod Deeds
 pub mod Norms
 pub mod Moves
 pub mod Settling
+pub mod Normalising
+pub mod StepRows
 pub mod Uses
 pub mod Closing
 pub mod Blocking
@@ -10,3 +12,5 @@ pub mod Splitting
 pub mod Plain
 pub mod Answers
 pub mod Laws
+pub mod Leaves
+pub mod Places
