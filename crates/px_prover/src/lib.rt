@@ -9,6 +9,7 @@ mod ends;
 mod heads;
 mod laws;
 mod limits;
+mod norm;
 mod stages;
 mod step_rows;
 mod stops;

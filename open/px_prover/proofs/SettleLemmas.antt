@@ -199,3 +199,13 @@ settle_end P branch before now i s used so_far most = record {
   used = so_far.flags;
   rows = so_far.rows;
 }
+
+-- both sides of an equation are put in, one after the other
+pub sides_set : (xs ys zs : List Equation) (i : ℕ) (l r : Term) → i < length xs → IfSome (slice_get xs i) (λ (e : Equation). ys ≡ slice_set xs i (with_side Left e l)) → IfSome (slice_get ys i) (λ (e : Equation). zs ≡ slice_set ys i (with_side Right e r)) →
+    zs ≡ slice_set xs i (equals l r)
+sides_set xs ys zs i l r within one two =
+    let item = some_item xs i within in
+    let first : ys ≡ slice_set xs i (with_side Left item.0 l) = subst (λ (o : Option Equation). IfSome o (λ (e : Equation). ys ≡ slice_set xs i (with_side Left e l))) item.1 one in
+    let there : slice_get ys i ≡ Some (with_side Left item.0 l) = ap (λ (v : List Equation). slice_get v i) first ∙ got_put xs i item.0 (with_side Left item.0 l) item.1 in
+    let second : zs ≡ slice_set ys i (with_side Right (with_side Left item.0 l) r) = subst (λ (o : Option Equation). IfSome o (λ (e : Equation). zs ≡ slice_set ys i (with_side Right e r))) there two in
+    second ∙ ap (λ (v : List Equation). slice_set v i (with_side Right (with_side Left item.0 l) r)) first ∙ put_twice xs i (with_side Left item.0 l) (with_side Right (with_side Left item.0 l) r)
