@@ -1,5 +1,5 @@
 -- Settling, one fact after the other, and the rows for it.
-use Rattle.std.proofs.Common.{◌≡◌, ◌≢◌, ◌≤◌, ◌<◌, ◌+◌, ℕ, zero, suc, List, [], ◌∷◌, ◌++◌, map, length, Bool, true, false, not, Option, Some, None, All, IsTrue, ◌↔◌, slice_get, slice_set, refl, sym, ap, ◌∙◌, subst, arith}
+use Rattle.std.proofs.Common.{◌≡◌, ◌≢◌, ◌≤◌, ◌<◌, ◌+◌, ℕ, zero, suc, List, [], ◌∷◌, ◌++◌, map, length, Bool, true, false, not, Option, Some, None, All, IfSome, IsTrue, ◌↔◌, slice_get, slice_set, refl, sym, ap, ◌∙◌, subst, arith}
 use Rattle.std.proofs.lemmas.List.{append_assoc, append-nil}
 use Rattle.std.proofs.lemmas.Option.{slice_get_past}
 use Rattle.px_terms.specs.declared.term.Term.{Term}
@@ -23,9 +23,9 @@ use Rattle.px_prover.specs.declared.deeds.Setting.{Setting}
 use Rattle.px_prover.specs.declared.settle.Sides.{Sides}
 use Rattle.px_prover.specs.Rooms.{whole_side}
 use Rattle.px_prover.specs.Norms.{HasNorm}
-use Rattle.px_prover.specs.Normalising.{KeepsUsed, live, moves_of}
+use Rattle.px_prover.specs.Normalising.{KeepsUsed, live, moves_of, HasOneHead}
 use Rattle.px_prover.specs.Turning.{normal_of}
-use Rattle.px_prover.specs.Settling.{facts_used, IsIdle, FactBecomes, Settled, closed, open_with, Settles, all_settled, passes, clashes, idles, says, SettlesBranch}
+use Rattle.px_prover.specs.Settling.{facts_used, IsIdle, one_constructor, FactBecomes, Settled, closed, open_with, Settles, all_settled, passes, clashes, idles, says, SettlesBranch}
 use Rattle.px_prover.specs.StepRows.{step_rows}
 use Rattle.px_prover.specs.SettleRows.{IsNormalSide, AreSides, AreSidesOf, AreSidesAt, fact_rows, RowsLead, IsOpened, IsClosed}
 use Rattle.px_prover.proofs.RowLemmas.{one_of_all, IsPlace, fact_place, alternative_place, side_rows, side_within, length_set, got_put, put_twice, put_same}
@@ -209,3 +209,7 @@ sides_set xs ys zs i l r within one two =
     let there : slice_get ys i ≡ Some (with_side Left item.0 l) = ap (λ (v : List Equation). slice_get v i) first ∙ got_put xs i item.0 (with_side Left item.0 l) item.1 in
     let second : zs ≡ slice_set ys i (with_side Right (with_side Left item.0 l) r) = subst (λ (o : Option Equation). IfSome o (λ (e : Equation). zs ≡ slice_set ys i (with_side Right e r))) there two in
     second ∙ ap (λ (v : List Equation). slice_set v i (with_side Right (with_side Left item.0 l) r)) first ∙ put_twice xs i (with_side Left item.0 l) (with_side Right (with_side Left item.0 l) r)
+
+-- a fact whose sides are one constructor says no more
+pub idle_by_head : (l r : Term) (b : Bool) → (IsTrue b ↔ HasOneHead l r) → b ≡ true → IsTrue b ↔ IsIdle l r
+idle_by_head l r b exact is = (λ (told : IsTrue b). one_constructor (exact.0 told).one, λ (idle : IsIdle l r). is)
