@@ -4,6 +4,7 @@ pub mod Norms
 pub mod Moves
 pub mod Settling
 pub mod Normalising
+pub mod Turning
 pub mod StepRows
 pub mod Uses
 pub mod Closing

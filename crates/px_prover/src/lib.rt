@@ -15,6 +15,7 @@ mod laws;
 mod leaf_pairs;
 mod leaf_rooms;
 mod limits;
+mod norm;
 mod parts;
 mod spots;
 mod stages;

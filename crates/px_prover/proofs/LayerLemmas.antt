@@ -70,7 +70,7 @@ call_parted setting t left levels f g funs gs args xs all is g_is gs_are xs_are 
     parted setting layer nodes deep frame args left levels t all (term.Call g gs all.terms) is fits on_args kept_of (λ i. term.Call (g_is i) (gs_are i) all.terms)
 
 -- a match, by its layer
-pub match_is : (t on : Term) (d : ℕ) (types : List Ty) (arms : List Term) → t ≡ term.Match on d types arms → IsMatch t
+abbrev pub match_is : (t on : Term) (d : ℕ) (types : List Ty) (arms : List Term) → t ≡ term.Match on d types arms → IsMatch t
 match_is t on d types arms is = record { on = on; datatype = d; types = types; arms = arms; is = ap out-Term is ∙ term.outs-Match on d types arms }
 
 -- the scrutinee of a match fits

@@ -161,3 +161,27 @@ module _ (setting : Setting) (ts : List Term) (left : Left) (levels : ℕ) (now 
 
   pub each_left : AreLeft ts left levels now terms
   each_left = subst (λ (us : List Term). AreLeft ts left levels now us) all_done so_far.left
+
+-- before the first part, with empty lists
+pub each_begins : (setting : Setting) (ts : List Term) (left : Left) (levels : ℕ) (terms : List Term) (stops : List StopTree) (stages : List Stage) → terms ≡ [] → stops ≡ [] → stages ≡ [] → terms_depth ts ≤ levels →
+    EachSoFar setting ts left levels 0 left terms stops stages
+each_begins setting ts left levels terms stops stages no_terms no_stops no_stages few =
+    subst (λ (l : List Term). EachSoFar setting ts left levels 0 left l stops stages) (sym no_terms)
+    (subst (λ (l : List StopTree). EachSoFar setting ts left levels 0 left [] l stages) (sym no_stops)
+    (subst (λ (l : List Stage). EachSoFar setting ts left levels 0 left [] [] l) (sym no_stages) (each_start setting ts left levels few)))
+
+-- one part more, with the lists that are pushed to
+pub each_goes : (setting : Setting) (ts : List Term) (left : Left) (levels i : ℕ) (now : Left) (terms : List Term) (stops : List StopTree) (stages : List Stage) → EachSoFar setting ts left levels i now terms stops stages → (c : Term) →
+    slice_get ts i ≡ Some c → (n : Found) → IsNormalised setting c now levels n → (us : List Term) (more_stops : List StopTree) (more : List Stage) → us ≡ terms ++ n.term ∷ [] → more_stops ≡ stops ++ n.stops ∷ [] →
+    moves_of more ≡ moves_of stages ++ moves_below i (moves_of n.stages) → EachSoFar setting ts left levels (i + 1) n.left us more_stops more
+each_goes setting ts left levels i now terms stops stages so_far c here n normal_is us more_stops more us_are stops_are moves =
+    subst (λ (l : List Term). EachSoFar setting ts left levels (i + 1) n.left l more_stops more) (sym us_are)
+    (subst (λ (l : List StopTree). EachSoFar setting ts left levels (i + 1) n.left (terms ++ n.term ∷ []) l more) (sym stops_are)
+    (each_next setting ts left levels i now terms stops stages so_far c here n normal_is more moves))
+
+-- all parts, at the end
+pub each_ends : (setting : Setting) (ts : List Term) (left : Left) (levels i : ℕ) (now : Left) (terms : List Term) (stops : List StopTree) (stages : List Stage) → EachSoFar setting ts left levels i now terms stops stages → i ≤ length ts →
+    length ts ≤ i → (layer : List Term → Term) (nodes deep : ℕ) → IsFrame layer nodes deep → deep ≤ levels → AreNormalised setting layer ts left levels (record { left = now; terms = terms; stops = stops; stages = stages })
+each_ends setting ts left levels i now terms stops stages so_far most least =
+    let same : i ≡ length ts = omega arith in
+    each_end setting ts left levels now terms stops stages (subst (λ (k : ℕ). EachSoFar setting ts left levels k now terms stops stages) same so_far)

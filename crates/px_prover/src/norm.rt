@@ -2,10 +2,10 @@
 //! counted but of a term at which something is done, and of what it becomes.
 
 ghost use Rattle.std.specs.Prelude.{◌≡◌, ◌++◌, ◌≤◌, ℕ, IfOk, List, map};
-ghost use Rattle.std.specs.Option.{option_copied};
+ghost use Rattle.std.specs.Option.{is_some, option_copied};
 ghost use Rattle.px_terms.specs.declared.term.Term.{Term as Tree, out-Term};
 ghost use Rattle.px_prover.specs.Deeds.{selected as selects};
-ghost use Rattle.px_prover.specs.Norms.{stop_of};
+ghost use Rattle.px_prover.specs.Norms.{match_of, stop_of};
 ghost use Rattle.px_prover.specs.Normalising.{IsLimited, stops_in};
 ghost use Rattle.px_prover.specs.Turning.{AreLeft, AreNormalised, HasLimits, HasRoom, HaveRoom, IsAfter, IsAfterSelect, IsBehind, IsChosen, IsFrame, IsLed, IsLeftAt, IsMatch, IsNormalised, IsParted, IsTurn, IsUnparted};
 
@@ -303,7 +303,7 @@ fn lead(
     requires fits { HasRoom setting.now t left levels }
     ensures { IfOk result (IsLed setting.now t left levels) }
 {
-    if matches!(&t, Term::Match { .. }) {
+    if is_match(&t) {
         return lead_match(alloc, setting, &t, left, levels);
     }
     Ok(LeadEnd::Freed {
@@ -311,6 +311,17 @@ fn lead(
         term: t,
         stages: Items::new(alloc),
     })
+}
+
+/// The term is a match.
+fn is_match(t: &Term) -> bool
+    ensures { result ≡ is_some (match_of (out-Term t.now)) }
+{
+    match t {
+        Term::Match { .. } => true,
+        Term::Free(_) | Term::Bound(_) | Term::Lit(_) | Term::Con { .. } | Term::Call { .. } =>
+            false,
+    }
 }
 
 /// The lead from a match.
