@@ -9,6 +9,7 @@ use Rattle.px_terms.specs.declared.clause.Equation.{Equation}
 use Rattle.px_terms.specs.declared.program.Program.{Program}
 use Rattle.px_terms.specs.Terms.{children_of, children, with_child_of, with_child, subterm, replaced}
 use Rattle.px_prover.specs.Rooms.{Room, room_in}
+use Rattle.px_prover.specs.Normalising.{moves_below}
 use Rattle.px_prover.specs.Moves.{Move, Moves, MovesLead, no_move, moves_on, Reaches}
 
 get_after_set : (ts : List Term) (i : ℕ) (c by : Term) → slice_get ts i ≡ Some c → slice_get (slice_set ts i by) i ≡ Some by
@@ -93,13 +94,8 @@ module _ {P : Program} {facts : List Equation} where
 abbrev below : ℕ → Move → Move
 below i m = record { path = i ∷ m.path; kind = m.kind }
 
--- the moves below a child
-abbrev all_below : ℕ → List Move → List Move
-all_below i [] = []
-all_below i (m ∷ ms) = below i m ∷ all_below i ms
-
 module _ (P : Program) (facts : List Equation) (room : Room) (t old : Term) (i : ℕ) (found : slice_get (children t) i ≡ Some old) where
-  child_move : {c u : Term} {m : Move} → Moves P facts (room_in room t i) c m u → Moves P facts room (with_child t i c) (below i m) (with_child t i u)
+  pub child_move : {c u : Term} {m : Move} → Moves P facts (room_in room t i) c m u → Moves P facts room (with_child t i c) (below i m) (with_child t i u)
   child_move {c} {u} {m} move =
       let child = child_put t i old c found in
       record {
@@ -113,10 +109,10 @@ module _ (P : Program) (facts : List Equation) (room : Room) (t old : Term) (i :
         fits = move.fits;
       }
 
-  child_lead : {c u : Term} {moves : List Move} → MovesLead P facts (room_in room t i) c moves u → MovesLead P facts room (with_child t i c) (all_below i moves) (with_child t i u)
+  child_lead : {c u : Term} {moves : List Move} → MovesLead P facts (room_in room t i) c moves u → MovesLead P facts room (with_child t i c) (moves_below i moves) (with_child t i u)
   child_lead no_move = no_move
   child_lead (moves_on m lead) = moves_on (child_move m) (child_lead lead)
 
   -- what a child reaches, the term reaches
   pub child_reaches : {c u : Term} → Reaches P facts (room_in room t i) c u → Reaches P facts room (with_child t i c) (with_child t i u)
-  child_reaches r = record { moves = all_below i r.moves; lead = child_lead r.lead; fits = r.fits }
+  child_reaches r = record { moves = moves_below i r.moves; lead = child_lead r.lead; fits = r.fits }

@@ -102,18 +102,18 @@ same_call : (f : Fun) (h : Head) (funs : List Fun) {args others : List Term} →
 same_call f h funs e es = λ k. Term-F.Call (record { head = e k; types = f.types }) funs (es k)
 
 module _ (P : Program) (facts : List Equation) (t r : Term) where
-  call_takes : (h : Head) (f : Fun) (funs : List Fun) (args : List Term) → f.head ≡ h → out-Term t ≡ Term-F.Call f funs args → called P h f funs args ≡ takes r →
-      SomeTurn P facts t r
-  call_takes (Def n) f funs args is layer e = absurd (leads_if_does_not_take _ e)
-  call_takes Wle f funs args is layer e =
+  pub call_compares : (h : Head) (f : Fun) (funs : List Fun) (args : List Term) → f.head ≡ h → out-Term t ≡ Term-F.Call f funs args → called P h f funs args ≡ takes r →
+      Turns P facts kind.Compare t r
+  call_compares (Def n) f funs args is layer e = absurd (leads_if_does_not_take _ e)
+  call_compares Wle f funs args is layer e =
       let c = compared_takes nat_le args e in
-      record { kind = kind.Compare; turns = steps.compares_order (layer ∙ same_call f Wle funs is c.literals.are) c.literals.first_is c.literals.second_is c.truth }
-  call_takes Weq f funs args is layer e =
+      steps.compares_order (layer ∙ same_call f Wle funs is c.literals.are) c.literals.first_is c.literals.second_is c.truth
+  call_compares Weq f funs args is layer e =
       let c = compared_takes (λ (x y : ℕ). x == y) args e in
-      record { kind = kind.Compare; turns = steps.compares_equality (layer ∙ same_call f Weq funs is c.literals.are) c.literals.first_is c.literals.second_is c.truth }
-  call_takes (FnVar i) f funs args is layer e = absurd (rests_is_not_takes e)
+      steps.compares_equality (layer ∙ same_call f Weq funs is c.literals.are) c.literals.first_is c.literals.second_is c.truth
+  call_compares (FnVar i) f funs args is layer e = absurd (rests_is_not_takes e)
 
-  call_leads : (h : Head) (f : Fun) (funs : List Fun) (args : List Term) → f.head ≡ h → out-Term t ≡ Term-F.Call f funs args → called P h f funs args ≡ leads r →
+  pub call_leads : (h : Head) (f : Fun) (funs : List Fun) (args : List Term) → f.head ≡ h → out-Term t ≡ Term-F.Call f funs args → called P h f funs args ≡ leads r →
       Turns P facts kind.Unfold t r
   call_leads (Def n) f funs args is layer e =
       let m = mapped (term_instance (record { types = f.types; funs = funs; terms = args })) (body_of P n) (leads_if_leads _ e) in
@@ -122,18 +122,18 @@ module _ (P : Program) (facts : List Equation) (t r : Term) where
   call_leads Weq f funs args is layer e = absurd (takes_if_does_not_lead _ e)
   call_leads (FnVar i) f funs args is layer e = absurd (rests_is_not_leads e)
 
-  match_takes : (y : Term-F Term) (on : Term) (d : ℕ) (types : List _) (arms : List Term) → out-Term on ≡ y → out-Term t ≡ Term-F.Match on d types arms →
-      selected P arms y ≡ takes r → SomeTurn P facts t r
-  match_takes (Term-F.Con e k us fields) on d types arms is layer takes_it =
+  pub match_selects : (y : Term-F Term) (on : Term) (d : ℕ) (types : List _) (arms : List Term) → out-Term on ≡ y → out-Term t ≡ Term-F.Match on d types arms →
+      selected P arms y ≡ takes r → Turns P facts kind.Select t r
+  match_selects (Term-F.Con e k us fields) on d types arms is layer takes_it =
       let m = mapped (with_fields P fields) (slice_get arms k) (takes_if_takes _ takes_it) in
-      record { kind = kind.Select; turns = steps.selects layer is m.is m.made }
-  match_takes (Term-F.Free n) on d types arms is layer e = absurd (rests_is_not_takes e)
-  match_takes (Term-F.Bound n) on d types arms is layer e = absurd (rests_is_not_takes e)
-  match_takes (Term-F.Lit w) on d types arms is layer e = absurd (rests_is_not_takes e)
-  match_takes (Term-F.Call f funs args) on d types arms is layer e = absurd (rests_is_not_takes e)
-  match_takes (Term-F.Match other c us others) on d types arms is layer e = absurd (rests_is_not_takes e)
+      steps.selects layer is m.is m.made
+  match_selects (Term-F.Free n) on d types arms is layer e = absurd (rests_is_not_takes e)
+  match_selects (Term-F.Bound n) on d types arms is layer e = absurd (rests_is_not_takes e)
+  match_selects (Term-F.Lit w) on d types arms is layer e = absurd (rests_is_not_takes e)
+  match_selects (Term-F.Call f funs args) on d types arms is layer e = absurd (rests_is_not_takes e)
+  match_selects (Term-F.Match other c us others) on d types arms is layer e = absurd (rests_is_not_takes e)
 
-  match_does_not_lead : (y : Term-F Term) (arms : List Term) → selected P arms y ≡ leads r → ⊥
+  pub match_does_not_lead : (y : Term-F Term) (arms : List Term) → selected P arms y ≡ leads r → ⊥
   match_does_not_lead (Term-F.Con e k us fields) arms leads_it = takes_if_does_not_lead _ leads_it
   match_does_not_lead (Term-F.Free n) arms e = rests_is_not_leads e
   match_does_not_lead (Term-F.Bound n) arms e = rests_is_not_leads e
@@ -143,8 +143,8 @@ module _ (P : Program) (facts : List Equation) (t r : Term) where
 
   -- what is taken at a term by itself is a step there
   pub own_takes : (y : Term-F Term) → out-Term t ≡ y → own_deed P y ≡ takes r → SomeTurn P facts t r
-  own_takes (Term-F.Call f funs args) is e = call_takes f.head f funs args refl is e
-  own_takes (Term-F.Match on d types arms) is e = match_takes (out-Term on) on d types arms refl is e
+  own_takes (Term-F.Call f funs args) is e = record { kind = kind.Compare; turns = call_compares f.head f funs args refl is e }
+  own_takes (Term-F.Match on d types arms) is e = record { kind = kind.Select; turns = match_selects (out-Term on) on d types arms refl is e }
   own_takes (Term-F.Free n) is e = absurd (rests_is_not_takes e)
   own_takes (Term-F.Bound n) is e = absurd (rests_is_not_takes e)
   own_takes (Term-F.Lit w) is e = absurd (rests_is_not_takes e)

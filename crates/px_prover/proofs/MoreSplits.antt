@@ -3,7 +3,7 @@ use Rattle.std.proofs.Common.{ℕ, suc, List}
 use Rattle.px_terms.specs.declared.clause.Clause.{Clause}
 use Rattle.px_terms.specs.declared.program.Program.{Program}
 use Rattle.px_terms.specs.declared.sequent.Sequent.{Sequent}
-use Rattle.px_prover.specs.Settling.{Branch}
+use Rattle.px_prover.specs.declared.branch.Branch.{Branch}
 use Rattle.px_prover.specs.Plain.{IsFound, AreFound, settled, closes, divided, none, more, IsFoundFrom, within, beyond, Plain}
 
 mutual

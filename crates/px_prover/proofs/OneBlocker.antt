@@ -5,7 +5,8 @@ use Rattle.px_terms.specs.declared.term.Term.TheOpen.{Term-F}
 use Rattle.px_terms.specs.declared.clause.Clause.{Clause}
 use Rattle.px_terms.specs.declared.program.Program.{Program}
 use Rattle.px_terms.specs.Rows.{HaveOneHead}
-use Rattle.px_prover.specs.Settling.{Branch, NormalSides, sides}
+use Rattle.px_prover.specs.declared.branch.Branch.{Branch}
+use Rattle.px_prover.specs.Settling.{NormalSides, sides}
 use Rattle.px_prover.specs.Closing.{LeafPair, AreLeafPairs, AreLeafPairsOfFields, equal, fields, itself, no_field, more_fields, Closes}
 use Rattle.px_prover.specs.Blocking.{BlocksAt, BlocksInFields, IsBlocker, in_fields, at_stop, next_field, this_field, this_one, next_one}
 use Rattle.px_prover.specs.Blocking as blocking
@@ -36,10 +37,10 @@ others_one : {A : Type 0} {x y : A} {xs ys : List A} → x ∷ xs ≡ y ∷ ys �
 others_one e = ap others_of e
 
 -- one constructor has one list of fields
-left_fields : {s t u v : Term} {ls ms ps qs : List Term} → HaveOneHead s t ls ps → HaveOneHead u v ms qs → s ≡ u → ls ≡ ms
+pub left_fields : {s t u v : Term} {ls ms ps qs : List Term} → HaveOneHead s t ls ps → HaveOneHead u v ms qs → s ≡ u → ls ≡ ms
 left_fields h g e = ap fields_in (sym h.left ∙ ap out-Term e ∙ g.left)
 
-right_fields : {s t u v : Term} {ls ms ps qs : List Term} → HaveOneHead s t ls ps → HaveOneHead u v ms qs → t ≡ v → ps ≡ qs
+pub right_fields : {s t u v : Term} {ls ms ps qs : List Term} → HaveOneHead s t ls ps → HaveOneHead u v ms qs → t ≡ v → ps ≡ qs
 right_fields h g e = ap fields_in (sym h.right ∙ ap out-Term e ∙ g.right)
 
 moved_head : {s t u v : Term} {ls ps : List Term} → s ≡ u → t ≡ v → HaveOneHead s t ls ps → HaveOneHead u v ls ps

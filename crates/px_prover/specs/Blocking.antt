@@ -5,7 +5,8 @@ use Rattle.px_terms.specs.declared.term.Term.{Term}
 use Rattle.px_terms.specs.declared.clause.Clause.{Clause}
 use Rattle.px_terms.specs.declared.program.Program.{Program}
 use Rattle.px_terms.specs.Rows.{HaveOneHead}
-use Rattle.px_prover.specs.Settling.{Branch, NormalSides, sides}
+use Rattle.px_prover.specs.declared.branch.Branch.{Branch}
+use Rattle.px_prover.specs.Settling.{NormalSides, sides}
 use Rattle.px_prover.specs.Closing.{Closes}
 
 mutual

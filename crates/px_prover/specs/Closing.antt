@@ -9,7 +9,8 @@ use Rattle.px_terms.specs.Rows.{HeadsClash, HaveOneHead}
 use Rattle.px_prover.specs.declared.limits.TheConstants.{LEAF_PAIRS}
 use Rattle.px_prover.specs.Rooms.{Room, whole_side, leaf_room}
 use Rattle.px_prover.specs.Norms.{HasNorm}
-use Rattle.px_prover.specs.Settling.{Branch, used_facts}
+use Rattle.px_prover.specs.declared.branch.Branch.{Branch}
+use Rattle.px_prover.specs.Settling.{used_facts}
 use Rattle.px_prover.specs.Uses.{IsUse}
 
 -- A use closes the branch: the sides of its conclusion come to distinct constructors or literals.

@@ -7,7 +7,8 @@ use Rattle.px_terms.specs.declared.program.Program.{Program}
 use Rattle.px_prover.specs.Rooms.{Room}
 use Rattle.px_prover.specs.Norms.{Normal, Norm}
 use Rattle.px_prover.specs.Moves.{Reaches, AreAmong}
-use Rattle.px_prover.specs.Settling.{Branch, NormalSides, Settled, SettlesBranch}
+use Rattle.px_prover.specs.declared.branch.Branch.{Branch}
+use Rattle.px_prover.specs.Settling.{NormalSides, Settled, SettlesBranch}
 use Rattle.px_prover.specs.Closing.{LeafPair, AreLeafPairs}
 use Rattle.px_prover.specs.Blocking.{IsBlocker}
 use Rattle.px_prover.specs.Plain.{Plain}

@@ -3,6 +3,9 @@ pub mod Deeds
 pub mod Norms
 pub mod Moves
 pub mod Settling
+pub mod Normalising
+pub mod Turning
+pub mod StepRows
 pub mod Uses
 pub mod Closing
 pub mod Blocking
@@ -10,3 +13,5 @@ pub mod Splitting
 pub mod Plain
 pub mod Answers
 pub mod Laws
+pub mod Leaves
+pub mod Places

@@ -29,6 +29,14 @@ match_free_step layer = true
 abbrev pub is_match_free : Term → Bool
 is_match_free = fold-Term Bool match_free_step
 
+-- none of the terms holds a match
+abbrev pub are_match_free : List Term → Bool
+are_match_free terms = list_all is_match_free terms
+
+-- nothing is blocked
+abbrev pub no_stop : Stops
+no_stop = λ (path : List ℕ). None
+
 -- the first stop of so many arguments, from this one on
 abbrev pub first_stop : Stops → ℕ → ℕ → Option Term
 first_stop stops i zero = None
@@ -65,7 +73,7 @@ pub record Parted : Type 0 where
 
 -- what a part is blocked at
 abbrev pub stops_of_part : List Stops → ℕ → Stops
-stops_of_part parts i = get_or parts i (λ (path : List ℕ). None)
+stops_of_part parts i = get_or parts i no_stop
 
 -- what a term at which nothing is done is blocked at: a match by its scrutinee, a call at what blocked its lead
 abbrev pub stop_of : Term-F Term → List Stops → Option Term → Option Term

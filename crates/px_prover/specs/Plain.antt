@@ -9,7 +9,8 @@ use Rattle.px_terms.specs.Obligations.{IsObligation}
 use Rattle.px_terms.specs.Sequents.{IsWithinLimits}
 use Rattle.px_terms.specs.Derivations.{AreFrameVariables, begins_with}
 use Rattle.px_terms.specs.Rows.{HeadsClash}
-use Rattle.px_prover.specs.Settling.{Branch, NormalSides, SettlesBranch, closed, IsReady}
+use Rattle.px_prover.specs.declared.branch.Branch.{Branch}
+use Rattle.px_prover.specs.Settling.{NormalSides, SettlesBranch, closed, IsReady}
 use Rattle.px_prover.specs.Closing.{SomeCloses}
 use Rattle.px_prover.specs.Blocking.{IsBlocker}
 use Rattle.px_prover.specs.Splitting.{Splits}

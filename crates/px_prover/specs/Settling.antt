@@ -3,17 +3,12 @@ use Rattle.std.specs.Prelude.{◌≡◌, ℕ, ◌+◌, List, [], ◌∷◌, map,
 use Rattle.px_terms.specs.declared.term.Term.{Term}
 use Rattle.px_terms.specs.declared.clause.Equation.{Equation}
 use Rattle.px_terms.specs.declared.program.Program.{Program}
-use Rattle.px_terms.specs.declared.sequent.Sequent.{Sequent}
 use Rattle.px_terms.specs.Clauses.{equals}
 use Rattle.px_terms.specs.Rows.{HeadsClash, HaveOneHead}
+use Rattle.px_prover.specs.declared.branch.Branch.{Branch}
 use Rattle.px_prover.specs.declared.limits.TheConstants.{UNITS}
 use Rattle.px_prover.specs.Rooms.{whole_side}
 use Rattle.px_prover.specs.Norms.{Normal, Norm, HasNorm}
-
--- A branch of the search: a sequent, and for each of its facts whether it is still used.
-pub record Branch : Type 0 where
-  pub sequent : Sequent
-  pub used : List Bool
 
 -- the facts that are used, in order
 abbrev pub facts_used : List Bool → List Equation → List Equation

@@ -14,7 +14,7 @@ use Rattle.px_terms.specs.declared.row.Row.{Row}
 use Rattle.px_terms.specs.declared.row.Row.TheVariants as row
 use Rattle.px_terms.specs.Noting.{IsOpen, equation_instance}
 use Rattle.px_terms.specs.Rows.{Opens, with_facts}
-use Rattle.px_prover.specs.Settling.{Branch}
+use Rattle.px_prover.specs.declared.branch.Branch.{Branch}
 
 -- a variable is split by its cases, another term as a term
 abbrev pub split_row : Term → Term-F Term → Row

@@ -20,7 +20,8 @@ use Rattle.px_terms.specs.Noting.{IsOpen, equation_instance, equations_instance,
 use Rattle.px_terms.specs.Rows.{Opens}
 use Rattle.px_prover.specs.Rooms.{whole_side}
 use Rattle.px_prover.specs.Norms.{HasNorm}
-use Rattle.px_prover.specs.Settling.{Branch, used_facts}
+use Rattle.px_prover.specs.declared.branch.Branch.{Branch}
+use Rattle.px_prover.specs.Settling.{used_facts}
 
 -- both sides of each equation
 abbrev pub sides_of : List Equation → List Term

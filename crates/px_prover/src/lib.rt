@@ -3,9 +3,25 @@
 //! in `specs/`, and none of them speaks of the search. Which derivations there are, is left to `px_terms`.
 #![tactic(auto)]
 
+mod branch;
+mod choices;
+mod deeds;
+mod ended;
 mod ends;
+mod frames;
+mod heads;
+mod instances;
 mod laws;
+mod leaf_pairs;
+mod leaf_rooms;
 mod limits;
+mod norm;
+mod parts;
+mod spots;
+mod stages;
+mod step_rows;
+mod stops;
+mod written;
 
 pub use ends::ProveEnd;
 pub use laws::{

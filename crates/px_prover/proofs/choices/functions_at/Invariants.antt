@@ -1,0 +1,7 @@
+use Rattle.std.proofs.Common.{◌≡◌, ℕ, Some, slice_get, take}
+use Rattle.std.specs.List.{AllZip}
+use Rattle.px_terms.specs.declared.types.Fun.{Fun}
+use Rattle.px_prover.proofs.choices.functions_at.Given as goal
+
+abbrev pub invariant-loop-number : goal.invariant-loop-number
+invariant-loop-number l = AllZip (λ (n : ℕ) (t : Fun). slice_get l.candidates n ≡ Some t) (take l.number-index l.numbers) l.funs
