@@ -8,8 +8,9 @@ use Rattle.px_terms.specs.declared.program.Program.{Program}
 use Rattle.px_schedule.specs.declared.schedule.Event.{Event}
 use Rattle.px_replicas.specs.declared.shown.Shown.{Shown}
 use Rattle.px_replicas.specs.Lines.{show_line, show_lines, shown_list, AreShown, none, more, AreLines}
-use Rattle.px_replicas.specs.Laws.{OneOutput}
-use Rattle.px_drive.specs.RunLaws.{CutIsFront}
+use Rattle.px_replicas.specs.Laws.{OneOutput, SchedulesMayHappen, LinesExist}
+use Rattle.px_drive.specs.Laws.{SourceIsChecked}
+use Rattle.px_drive.specs.RunLaws.{MergesJoin, CutIsFront, CutIsFrontOfAll}
 use Rattle.px_drive.proofs.RunChances.{one_declaration}
 
 -- What the first events show stands at the front of what more of them show.
@@ -70,3 +71,20 @@ cut_is_front_law one P S R printed whole declared cut lines =
     lines.whole ∙ (ap (show_lines P.names) front.whole ∙ (flat_map-append (show_line P.names) front.first front.rest ∙ ap (λ (xs : List ℕ). xs ++ show_lines P.names front.rest) (sym first))) in
     let found = front_of_more cut.count cut.lines (show_lines P.names front.rest) in
     (found.0, cut.front ∙ (found.1 ∙ ap (take found.0) (sym all)))
+
+-- there are lines of all shows, and so a front of the first is one of them all
+pub cut_is_front_of_all_law : SourceIsChecked → MergesJoin → SchedulesMayHappen → LinesExist → CutIsFront → CutIsFrontOfAll
+cut_is_front_of_all_law checked joins may exist front text steps lines printed P S source derivation schedule cut =
+    let of = may P lines S schedule in
+    let joined = joins text steps P S.declaration of.replica source derivation of.declared in
+    let most : length S.events ≤ length S.events = omega arith in
+    let whole = exist P of.replica S.declaration S.count (checked text P source) of.declared joined S.events of.may (length S.events) most in
+    let cut_at = front P S of.replica printed whole.0 of.declared cut whole.1 in
+    record {
+      R = of.replica;
+      declared = of.declared;
+      whole = whole.0;
+      lines = whole.1;
+      count = cut_at.0;
+      front = cut_at.1;
+    }

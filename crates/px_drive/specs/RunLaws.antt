@@ -31,6 +31,19 @@ MergesJoin = (text steps : List ℕ) (P : Program) (number : ℕ) (R : ReplicaDe
 abbrev pub CutIsFront : Type 0
 CutIsFront = (P : Program) (S : Recorded) (R : ReplicaDef) (printed whole : List ℕ) → slice_get P.replicas S.declaration ≡ Some R → IsCutRun P S printed → AreLines P R S.events (length S.events) whole → (count : ℕ) × (printed ≡ take count whole)
 
+-- These bytes are a front of the lines of all shows of the schedule.
+pub record IsFrontOfAll (P : Program) (S : Recorded) (printed : List ℕ) : Type 0 where
+  pub R : ReplicaDef
+  pub declared : slice_get P.replicas S.declaration ≡ Some R
+  pub whole : List ℕ
+  pub lines : AreLines P R S.events (length S.events) whole
+  pub count : ℕ
+  pub front : printed ≡ take count whole
+
+-- a schedule of a program that has a derivation has lines of all its shows, and what was printed where it was run in part is a front of them
+abbrev pub CutIsFrontOfAll : Type 0
+CutIsFrontOfAll = (text steps lines printed : List ℕ) (P : Program) (S : Recorded) → IsSource text P → IsDerivationOf P steps → IsSchedule P lines S → IsCutRun P S printed → IsFrontOfAll P S printed
+
 -- the lines of a schedule's shows agree: two of them with the same numbers have the same text of a state
 abbrev pub LinesAgree : Type 0
 LinesAgree = (P : Program) (R : ReplicaDef) (S : Recorded) (place : ℕ) (printed : List ℕ) → AreLines P R S.events place printed → Agree printed

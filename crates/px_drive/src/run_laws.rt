@@ -1,11 +1,11 @@
 //! What the table of causes says of every call of `run`, as functions whose contracts are these laws.
 
-ghost use Rattle.px_drive.specs.RunLaws.{MergesJoin, CutIsFront, LinesAgree, CutIsRun, DoneIsRun, SpentIsFirst, RunIsRefused, RefusedIsNotRun, ScheduleIsFaulty, FaultyIsSchedule, TooLongForRunIsLonger, LongScheduleIsTooLong, FirstIsSpent};
+ghost use Rattle.px_drive.specs.RunLaws.{MergesJoin, CutIsFront, CutIsFrontOfAll, LinesAgree, CutIsRun, DoneIsRun, SpentIsFirst, RunIsRefused, RefusedIsNotRun, ScheduleIsFaulty, FaultyIsSchedule, TooLongForRunIsLonger, LongScheduleIsTooLong, FirstIsSpent};
 
 use crate::laws::{
     accepted_is_true, never_both, never_rejected, one_rejection, one_source, source_is_checked,
 };
-use px_replicas::{declared_merges_join, one_need, one_output};
+use px_replicas::{declared_merges_join, lines_exist, one_need, one_output, schedules_may_happen};
 use px_schedule::{never_both as never_schedule_and_fault, one_fault, one_schedule};
 
 /// Where the program of a text has a derivation, the merge of each of its replica declarations is commutative, associative and
@@ -23,6 +23,18 @@ pub fn cut_is_front()
     ensures { CutIsFront }
 {
     one_output();
+}
+
+/// A schedule of a program that has a derivation has lines of all its shows, and what was printed where it was run in part is a front of
+/// them.
+pub fn cut_is_front_of_all()
+    ensures { CutIsFrontOfAll }
+{
+    source_is_checked();
+    merges_join();
+    schedules_may_happen();
+    lines_exist();
+    cut_is_front();
 }
 
 /// The lines of a schedule's shows agree: two of them with the same numbers have the same text of a state.
